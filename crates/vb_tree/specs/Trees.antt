@@ -1,0 +1,69 @@
+-- Trees: their entries, what stands where, and how much they take.
+use Rattle.std.specs.Prelude.{ℕ, ◌+◌, ◌/◌, ◌≤◌, if◌then◌else◌, List, [], ◌∷◌, length, Option, Some, None}
+use Rattle.std.specs.Option.{option_map}
+use Rattle.std.specs.Ordering.{is_lt}
+use Rattle.std.specs.List.{sum_by}
+use Rattle.vb_tree.specs.declared.tree.Kind.{Kind}
+use Rattle.vb_tree.specs.declared.tree.Kind.TheVariants.{Folder}
+use Rattle.vb_tree.specs.declared.tree.Limits.{Limits}
+use Rattle.vb_tree.specs.declared.tree.TreeEntry.{TreeEntry}
+use Rattle.vb_tree.specs.Paths.{same_path, path_cmp}
+
+-- a tree and its limits
+pub record LimitedTree : Type 0 where
+  pub limits : Limits
+  pub tree : List TreeEntry
+
+-- the first entry at a path
+abbrev pub entry_at : List (List ℕ) → List TreeEntry → Option TreeEntry
+entry_at path [] = None
+entry_at path (e ∷ es) = if same_path path e.path then Some e else entry_at path es
+
+-- what stands at a path: the root is a folder, and every other place has what its entry is
+abbrev pub kind_at : List (List ℕ) → List TreeEntry → Option Kind
+kind_at [] tree = Some Folder
+kind_at (part ∷ parts) tree = option_map (λ e. e.kind) (entry_at (part ∷ parts) tree)
+
+-- the bytes at a path, none where nothing stands
+abbrev pub bytes_in : Option TreeEntry → List ℕ
+bytes_in None = []
+bytes_in (Some e) = e.bytes
+
+-- the tree with one more entry, before the first that comes after it
+abbrev pub insert_entry : TreeEntry → List TreeEntry → List TreeEntry
+insert_entry new [] = new ∷ []
+insert_entry new (e ∷ es) = if is_lt (path_cmp new.path e.path) then new ∷ e ∷ es else e ∷ insert_entry new es
+
+-- the tree in which the entry at a path has these bytes
+abbrev pub with_bytes_at : List (List ℕ) → List ℕ → List TreeEntry → List TreeEntry
+with_bytes_at path bytes [] = []
+with_bytes_at path bytes (e ∷ es) = if same_path path e.path then record e { bytes = bytes } ∷ es else e ∷ with_bytes_at path bytes es
+
+-- how many pages of 4,096 bytes a length takes
+abbrev pub data_pages_of : ℕ → ℕ
+data_pages_of len = (len + 4095) / 4096
+
+-- how many pages a file of this length takes: its data pages, and a map page for each 113 of them
+abbrev pub pages_of_length : ℕ → ℕ
+pages_of_length len = data_pages_of len + (data_pages_of len + 112) / 113
+
+-- how many pages all files take
+abbrev pub page_count : List TreeEntry → ℕ
+page_count tree = sum_by (λ e. pages_of_length (length e.bytes)) tree
+
+-- how many nodes a tree has, the root among them
+abbrev pub node_count : List TreeEntry → ℕ
+node_count tree = length tree + 1
+
+-- limits that a store may have
+pub record AreInLimits (limits : Limits) : Type 0 where
+  pub least_nodes : 16 ≤ limits.nodes
+  pub most_nodes : limits.nodes ≤ 65536
+  pub least_pages : 2 ≤ limits.pages
+  pub most_pages : limits.pages ≤ 131071
+
+-- the tree keeps to limits that a store may have
+pub record IsWithin (limits : Limits) (tree : List TreeEntry) : Type 0 where
+  pub limits_allowed : AreInLimits limits
+  pub nodes_within : node_count tree ≤ limits.nodes
+  pub pages_within : page_count tree ≤ limits.pages

@@ -1,0 +1,38 @@
+// What a writer asks of a tree, and what the tree answers.
+use crate::{Bytes, Path};
+
+/// A change that a writer asks for.
+#[derive(Debug, Drop)]
+pub enum Op {
+    /// Makes an empty file.
+    Create {
+        path: Path,
+    },
+    /// Replaces a file's bytes from an offset on. A gap past the end is filled with zeros.
+    Write {
+        path: Path,
+        offset: u64,
+        bytes: Bytes,
+    },
+}
+
+/// What a tree answers to an operation.
+#[derive(Debug, Drop)]
+pub enum Reply {
+    Done,
+    Refused(Refusal),
+}
+
+/// Why an operation was refused. The numbers are what would be after the operation, and the limit.
+#[derive(Clone, Copy, Debug, PartialEq, Eq)]
+pub enum Refusal {
+    RootFixed,
+    NoEntry,
+    NoParent,
+    ParentNotDir,
+    Exists,
+    NotAFile,
+    TooLong { length: u64 },
+    TooManyNodes { nodes: u32, limit: u32 },
+    NoSpace { pages: u64, limit: u64 },
+}

