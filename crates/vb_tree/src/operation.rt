@@ -1,5 +1,8 @@
 // What a writer asks of a tree, and what the tree answers.
+ghost use Rattle.std.specs.Prelude.{◌≡◌, IfOk};
+
 use crate::{Bytes, Path};
+use std::alloc::{AllocError, Global};
 
 /// A change that a writer asks for.
 #[derive(Debug, Drop)]
@@ -35,4 +38,22 @@ pub enum Refusal {
     TooLong { length: u64 },
     TooManyNodes { nodes: u32, limit: u32 },
     NoSpace { pages: u64, limit: u64 },
+}
+
+impl Op {
+    /// An equal operation.
+    pub fn copy(&self, alloc: Global) -> Result<Op, AllocError>
+        ensures { IfOk result (λ op. op ≡ self.now) }
+    {
+        Err(AllocError)
+    }
+}
+
+impl Reply {
+    /// An equal reply.
+    pub fn copy(&self, alloc: Global) -> Result<Reply, AllocError>
+        ensures { IfOk result (λ reply. reply ≡ self.now) }
+    {
+        Err(AllocError)
+    }
 }

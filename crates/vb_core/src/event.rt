@@ -1,0 +1,69 @@
+// What can happen to a folder, and what each event answers.
+use std::alloc::AllocError;
+use vb_list::Items;
+use vb_tree::{Op, Reply};
+
+/// One call on a folder.
+#[derive(Debug, Drop)]
+pub enum FolderEvent {
+    /// A writer's operation.
+    Call { writer: u32, op: Op },
+    /// A freeze, by a writer or by 0, the program.
+    Freeze { by: u32 },
+    /// One step of the commit that is on.
+    CommitStep,
+    /// One step of the upload of the committed view.
+    UploadStep,
+    /// The frozen view is given up.
+    DropView,
+    /// A writer ends.
+    End { writer: u32 },
+}
+
+/// What a commit step did.
+#[derive(Clone, Copy, Debug, PartialEq, Eq)]
+pub enum CommitStep {
+    /// From now on no crash loses the view.
+    Committed,
+    /// The commit is over.
+    Rested,
+    /// No commit is on.
+    Idle,
+}
+
+/// What an upload step did.
+#[derive(Clone, Copy, Debug, PartialEq, Eq)]
+pub enum UploadStep {
+    /// The cloud shows the view of this epoch.
+    Published { epoch: u64 },
+    /// No committed view stands.
+    Nothing,
+}
+
+/// Why a folder wasn't frozen.
+#[derive(Clone, Copy, Debug, PartialEq, Eq)]
+pub enum FreezeError {
+    /// The view of this epoch stands, or its commit isn't at rest.
+    Busy { epoch: u64 },
+    /// There is no epoch after this one.
+    Spent { epoch: u64, sequence: u64 },
+    Memory,
+}
+
+/// There is no view to drop.
+#[derive(Clone, Copy, Debug, PartialEq, Eq)]
+pub struct NoView;
+
+/// What an event answered.
+#[derive(Debug, Drop)]
+pub enum FolderAnswer {
+    Called(Reply),
+    Frozen { epoch: u64 },
+    Busy { epoch: u64 },
+    Spent { epoch: u64, sequence: u64 },
+    CommitStepped(CommitStep),
+    UploadStepped(UploadStep),
+    Dropped { epoch: u64 },
+    NoView,
+    Ended,
+}
