@@ -4,7 +4,9 @@
 mod entry;
 mod history;
 mod laws;
+mod script;
 
 pub use entry::{Entry, Stage};
 pub use history::History;
+pub use script::{Line, Lines, Scripts, WriterScript};
 pub use laws::{history_without_cut_survives, legal_histories_grow};
