@@ -81,6 +81,13 @@ impl Cloud {
         (&entry.path, entry.kind, entry.bytes.slice())
     }
 
+    /// All entries of the view, in path order.
+    pub fn entries(&self) -> &[TreeEntry]
+        ensures { result.now ≡ self.now.tree }
+    {
+        self.entries.as_slice()
+    }
+
     /// Shows this tree at this epoch in place of the view before, in one step.
     pub fn replace(&mut self, alloc: Global, epoch: u64, tree: &Plain) -> Result<(), CloudRefusal>
         ensures answer { ReplacesUnlessMemory self.old epoch result }

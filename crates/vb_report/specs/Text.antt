@@ -1,0 +1,107 @@
+-- What is printed of a history and of a published view. Every line ends with a line feed.
+use Rattle.std.specs.Prelude.{ℕ, ◌+◌, ◌/◌, ◌%◌, Bool, true, false, ◌||◌, nat_lt, ◌==◌, if◌then◌else◌, List, [], ◌∷◌, ◌++◌, length, codes, decimal}
+use Rattle.std.specs.List.{flat_map}
+use Rattle.vb_tree.specs.declared.tree.Kind.{Kind}
+use Rattle.vb_tree.specs.declared.tree.Kind.TheVariants.{Folder, File}
+use Rattle.vb_tree.specs.declared.tree.TreeEntry.{TreeEntry}
+use Rattle.vb_tree.specs.declared.operation.Op.{Op}
+use Rattle.vb_tree.specs.declared.operation.Op.TheVariants.{Create, Write}
+use Rattle.vb_tree.specs.declared.operation.Reply.{Reply}
+use Rattle.vb_tree.specs.declared.operation.Reply.TheVariants.{Done, Refused}
+use Rattle.vb_tree.specs.declared.operation.Refusal.{Refusal}
+use Rattle.vb_tree.specs.declared.operation.Refusal.TheVariants.{RootFixed, NoEntry, NoParent, ParentNotDir, Exists, NotAFile, TooLong, TooManyNodes, NoSpace}
+use Rattle.vb_tree.specs.Paths.{text_of_path}
+use Rattle.vb_hist.specs.declared.entry.Entry.{Entry}
+use Rattle.vb_hist.specs.declared.entry.Entry.TheVariants.{Call, Freeze, FreezeBusy, Commit, Rest, Publish, Doubt, Dropped, End, Cut}
+
+-- a line feed
+abbrev pub line_feed : List ℕ
+line_feed = 10 ∷ []
+
+-- a hexadecimal digit in lower case
+abbrev pub hex_digit : ℕ → ℕ
+hex_digit n = if nat_lt n 10 then 48 + n else 87 + n
+
+-- whether a byte of a path or a name is printed by its number: 0x00 to 0x20, `%` and 0x7F
+abbrev pub is_escaped : ℕ → Bool
+is_escaped b = nat_lt b 33 || (b == 37 || b == 127)
+
+-- a byte of a path or a name: itself, or `%` and two hexadecimal digits
+abbrev pub byte_text : ℕ → List ℕ
+byte_text b = if is_escaped b then 37 ∷ hex_digit (b / 16) ∷ hex_digit (b % 16) ∷ [] else b ∷ []
+
+-- the bytes of a path or a name
+abbrev pub escaped : List ℕ → List ℕ
+escaped bytes = flat_map byte_text bytes
+
+-- a path
+unfoldable pub path_text : List (List ℕ) → List ℕ
+path_text path = escaped (text_of_path path)
+
+-- two numbers, one after the other
+abbrev pub numbers_text : ℕ → ℕ → List ℕ
+numbers_text first second = decimal first ++ codes " " ++ decimal second
+
+-- a refusal: its name, and its numbers behind it
+unfoldable pub refusal_text : Refusal → List ℕ
+refusal_text RootFixed = codes "RootFixed"
+refusal_text NoEntry = codes "NoEntry"
+refusal_text NoParent = codes "NoParent"
+refusal_text ParentNotDir = codes "ParentNotDir"
+refusal_text Exists = codes "Exists"
+refusal_text NotAFile = codes "NotAFile"
+refusal_text (TooLong len) = codes "TooLong " ++ decimal len
+refusal_text (TooManyNodes nodes limit) = codes "TooManyNodes " ++ numbers_text nodes limit
+refusal_text (NoSpace pages limit) = codes "NoSpace " ++ numbers_text pages limit
+
+-- a reply
+unfoldable pub reply_text : Reply → List ℕ
+reply_text Done = codes "ok"
+reply_text (Refused refusal) = codes "refused " ++ refusal_text refusal
+
+-- an operation: its word in a script, and its path
+unfoldable pub op_text : Op → List ℕ
+op_text (Create path) = codes "create " ++ path_text path
+op_text (Write path offset bytes) = codes "write " ++ path_text path
+
+-- a writer's number before what the writer did
+abbrev pub writer_text : ℕ → List ℕ
+writer_text writer = codes "w" ++ decimal writer ++ codes " "
+
+-- who did it: a writer, or the program, which isn't named
+abbrev pub who_text : ℕ → List ℕ
+who_text by = if by == 0 then [] else writer_text by
+
+-- a word, and an epoch behind it
+abbrev pub epoch_line : List ℕ → ℕ → List ℕ
+epoch_line word epoch = word ++ decimal epoch ++ line_feed
+
+-- the line of an entry, and nothing for an entry that prints none
+unfoldable pub entry_text : Entry → List ℕ
+entry_text (Call writer op reply) = writer_text writer ++ op_text op ++ codes " " ++ reply_text reply ++ line_feed
+entry_text (Freeze by epoch) = who_text by ++ epoch_line (codes "freeze ") epoch
+entry_text (FreezeBusy writer epoch) = writer_text writer ++ epoch_line (codes "freeze busy ") epoch
+entry_text (Publish epoch) = epoch_line (codes "publish ") epoch
+entry_text (Dropped epoch) = epoch_line (codes "drop ") epoch
+entry_text (Cut epoch limits) = epoch_line (codes "cut ") epoch
+entry_text (Commit epoch) = []
+entry_text (Rest epoch) = []
+entry_text (Doubt epoch) = []
+entry_text (End writer) = []
+
+-- the lines of a history
+abbrev pub history_text : List Entry → List ℕ
+history_text history = flat_map entry_text history
+
+-- the line of a listed entry
+abbrev pub listed_text : Kind → List (List ℕ) → ℕ → List ℕ
+listed_text Folder path len = codes "folder " ++ path_text path ++ line_feed
+listed_text File path len = codes "file " ++ path_text path ++ codes " " ++ decimal len ++ line_feed
+
+-- the line of a tree's entry
+unfoldable pub tree_entry_text : TreeEntry → List ℕ
+tree_entry_text e = listed_text e.kind e.path (length e.bytes)
+
+-- the listing of a published view: its epoch, and its entries in path order
+abbrev pub listing_text : ℕ → List TreeEntry → List ℕ
+listing_text epoch tree = epoch_line (codes "view ") epoch ++ flat_map tree_entry_text tree
