@@ -67,7 +67,7 @@ fn put_refusal(line: &mut Bytes, refusal: &Refusal) -> Result<(), AllocError>
             put_number(line, length)
         }
         Refusal::TooManyNodes { nodes, limit } => {
-            put_numbers(line, b"TooManyNodes ", nodes as u64, limit as u64)
+            put_numbers(line, b"TooManyNodes ", u64::from(nodes), u64::from(limit))
         }
         Refusal::NoSpace { pages, limit } => { put_numbers(line, b"NoSpace ", pages, limit) }
     }
