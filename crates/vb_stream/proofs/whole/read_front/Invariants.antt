@@ -1,0 +1,14 @@
+-- what was got so far is the front of what was left
+use Rattle.std.proofs.Common.{◌≡◌, ℕ, ◌≤◌, ◌-◌, List, length, Some}
+use Rattle.vb_stream.specs.Streams.{HasGot}
+use Rattle.vb_stream.proofs.whole.read_front.Given as goal
+
+abbrev pub invariant-loop-buffer : goal.invariant-loop-buffer
+invariant-loop-buffer g l = record {
+  front : (bytes : List ℕ) → g.S.Source.left l.fn.source ≡ Some bytes → HasGot bytes l.got (g.S.Source.left l.source);
+  short : length l.got ≤ l.most;
+  faults : g.S.Source.faults l.fn.source ≤ g.S.Source.faults l.source;
+}
+
+abbrev pub decreases-loop-buffer : goal.decreases-loop-buffer
+decreases-loop-buffer g l = l.most - length l.got

@@ -1,0 +1,56 @@
+-- What one read or write does, and what many of them do in a row.
+use Rattle.std.specs.Prelude.{◌≡◌, ℕ, ◌-◌, ◌<◌, ◌≤◌, Bool, false, ◌==◌, List, [], ◌∷◌, ◌++◌, length, take, drop, map, Option, Some, None, Result, Ok, Err}
+use Rattle.std.specs.List.{list_any}
+use Rattle.vb_stream.specs.declared.source.SourceFault.{SourceFault}
+use Rattle.vb_stream.specs.declared.whole.ReadError.{ReadError}
+use Rattle.vb_stream.specs.declared.sink.SinkError.{SinkError}
+use Rattle.vb_stream.specs.declared.sink.SinkError.TheVariants.{Failed, Memory}
+
+-- whether the next call is listed: 1 names it, 2 the one after it, and so on
+abbrev pub is_next_listed : List ℕ → Bool
+is_next_listed listed = list_any (λ nth. nth == 1) listed
+
+-- the listed calls after one call was made; 0 names no call
+abbrev pub listed_after_call : List ℕ → List ℕ
+listed_after_call listed = map (λ nth. nth - 1) listed
+
+-- a read of a buffer of this size took bytes from the front of what was left: none only where nothing is left or the
+-- buffer is empty. A fault takes none
+abbrev pub TakesFront : List ℕ → Result ℕ SourceFault → List ℕ → Option (List ℕ) → Type 0
+TakesFront bytes (Ok n) buffer left =
+    (n ≤ length bytes) × (take n buffer ≡ take n bytes) × (left ≡ Some (drop n bytes))
+    × (0 < length buffer → n ≡ 0 → bytes ≡ [])
+TakesFront bytes (Err fault) buffer left = left ≡ Some bytes
+
+-- a write of a piece took this much of its front
+abbrev pub TakesPiece : List ℕ → List ℕ → Result ℕ SinkError → Option (List ℕ) → Type 0
+TakesPiece before piece (Ok n) written = written ≡ Some (before ++ take n piece)
+TakesPiece before piece (Err Failed) written = (n : ℕ) × (n ≤ length piece) × (written ≡ Some (before ++ take n piece))
+TakesPiece before piece (Err Memory) written = written ≡ Some before
+
+-- what was written is a front of the text, and what is left of it
+abbrev pub WritesFront : List ℕ → List ℕ → Option (List ℕ) → List ℕ → Type 0
+WritesFront before text written rest = (front : List ℕ) × (text ≡ front ++ rest) × (written ≡ Some (before ++ front))
+
+-- what was written is the whole text, or after an error a front of it
+abbrev pub WritesWhole : {A : Type 0} → List ℕ → List ℕ → Result A SinkError → Option (List ℕ) → Type 0
+WritesWhole before text (Ok done) written = written ≡ Some (before ++ text)
+WritesWhole before text (Err error) written = (rest : List ℕ) × WritesFront before text written rest
+
+-- what was got is the front of the bytes that were left, and this is still left
+abbrev pub HasGot : List ℕ → List ℕ → Option (List ℕ) → Type 0
+HasGot bytes got left = (rest : List ℕ) × (bytes ≡ got ++ rest) × (left ≡ Some rest)
+
+-- at most so many bytes were taken from what was left
+abbrev pub TakesAtMost : ℕ → List ℕ → Option (List ℕ) → Type 0
+TakesAtMost most bytes left = (taken : List ℕ) × (length taken ≤ most) × HasGot bytes taken left
+
+-- after one more read: more was got, or this was the end; after an error as much was taken as may be
+abbrev pub GetsMore : ℕ → List ℕ → Result Bool ReadError → List ℕ → Option (List ℕ) → Type 0
+GetsMore most bytes (Ok more) got left = HasGot bytes got left × (more ≡ false → left ≡ Some [])
+GetsMore most bytes (Err error) got left = TakesAtMost most bytes left
+
+-- at the end of all reads: all that was asked for, or all that there was
+abbrev pub GetsFront : ℕ → List ℕ → Result (List ℕ) ReadError → Option (List ℕ) → Type 0
+GetsFront most bytes (Ok got) left = (got ≡ take most bytes) × (left ≡ Some (drop most bytes))
+GetsFront most bytes (Err error) left = TakesAtMost most bytes left

@@ -1,0 +1,113 @@
+// Sources of bytes.
+ghost use Rattle.std.specs.Prelude.{◌≡◌, ◌-◌, ◌+◌, ℕ, ◌≤◌, ◌<◌, List, [], ◌∷◌, ◌++◌, length, Some, None, Option, IfOk, IsOk, IsErr, IsTrue, ◌↔◌, OnOk, OnErr, take, drop, min};
+ghost use Rattle.vb_cause.specs.Faults.{HasRisen};
+ghost use Rattle.vb_stream.specs.Streams.{TakesFront, is_next_listed, listed_after_call};
+
+use crate::ListedCalls;
+use std::alloc::{AllocError, Global};
+use std::marker::Model;
+use vb_cause::raised;
+use vb_list::Items;
+
+/// A read failed.
+#[derive(Clone, Copy, Debug, PartialEq, Eq)]
+pub struct SourceFault;
+
+/// Where bytes come from. What is left is told by sources in memory, and not by streams.
+pub trait Source {
+    /// The bytes that are still to come, where the source tells them.
+    ghost left: { Self → Option (List ℕ) };
+    /// How often a read failed.
+    ghost faults: { Self → ℕ };
+
+    /// Puts the next bytes into the front of the buffer, and answers how many. 0 for a buffer that isn't empty is the end.
+    fn read(&mut self, into: &mut [u8]) -> Result<usize, SourceFault>
+        ensures count { IfOk result (λ n. n ≤ length into.old) }
+        ensures taken { (bytes : List ℕ) → left self.old ≡ Some bytes → TakesFront bytes result into.new (left self.new) }
+        ensures cause { IsErr result → HasRisen (faults self.old) (faults self.new) }
+        ensures kept { faults self.old ≤ faults self.new };
+}
+
+/// A source over bytes in memory. It fails exactly at the listed calls. Contracts see the bytes that are left, the
+/// listed calls, and the count of faults.
+#[derive(Debug, Drop)]
+pub struct MemorySource {
+    bytes: Items<u8>,
+    at: usize,
+    fails: ListedCalls,
+    faults: u64,
+}
+
+impl Model for MemorySource {
+    ghost use Rattle.std.specs.Prelude.{◌≤◌, drop, length};
+    ghost use Rattle.vb_stream.specs.Memory.{SourceView};
+
+    ghost Value = { SourceView };
+
+    ghost view = { λ a. record { left = drop a.at a.bytes; listed = a.fails; faults = a.faults } };
+
+    ghost invariant = { λ a. a.at ≤ length a.bytes };
+}
+
+impl MemorySource {
+    /// A source of these bytes. No call is listed to fail.
+    pub fn new(alloc: Global, bytes: Items<u8>) -> MemorySource
+        ensures { result ≡ record { left = bytes; listed = []; faults = 0 } }
+    {
+        MemorySource {
+            bytes,
+            at: 0,
+            fails: ListedCalls::new(alloc),
+            faults: 0,
+        }
+    }
+
+    /// Lists the nth read from now, counted from 1, to fail. 0 names no call.
+    pub fn fail_call(&mut self, nth: u32) -> Result<(), AllocError>
+        ensures ok { OnOk result (self.new ≡ record self.old { listed = self.old.listed ++ nth ∷ [] }) }
+        ensures err { OnErr result (self.new ≡ self.old) }
+    {
+        let _ = self.at;
+        self.fails.list(nth)
+    }
+}
+
+impl Source for MemorySource {
+    ghost left = { λ source. Some source.left };
+
+    ghost faults = { λ source. source.faults };
+
+    fn read(&mut self, into: &mut [u8]) -> Result<usize, SourceFault>
+        ensures count { IfOk result (λ n. n ≤ length into.old) }
+        ensures taken { (bytes : List ℕ) → Some self.old.left ≡ Some bytes → TakesFront bytes result into.new (Some self.new.left) }
+        ensures cause { IsErr result → HasRisen self.old.faults self.new.faults }
+        ensures kept { self.old.faults ≤ self.new.faults }
+
+        // It fails exactly where the call is listed, and takes all that the buffer has room for.
+        ensures listed { IsErr result ↔ IsTrue (is_next_listed self.old.listed) }
+        ensures counted { self.new.listed ≡ listed_after_call self.old.listed }
+        ensures full { IfOk result (λ n. n ≡ min (length into.old) (length self.old.left)) }
+        ensures no_fault { IsOk result → self.new.faults ≡ self.old.faults }
+    {
+        if self.fails.count() {
+            self.faults = raised(self.faults);
+            return Err(SourceFault);
+        }
+        let count = copy_front(self.bytes.slice(), self.at, into);
+        self.at += count;
+        Ok(count)
+    }
+}
+
+/// Copies as many bytes from a place on as the buffer has room for, and answers how many.
+fn copy_front(bytes: &[u8], at: usize, into: &mut [u8]) -> usize
+    requires { at ≤ length bytes.now }
+    ensures count { result ≡ min (length into.old) (length bytes.now - at) }
+    ensures copied { take result into.new ≡ take result (drop at bytes.now) }
+{
+    let count = into.len().min(bytes.len() - at);
+    for i in 0..count {
+        into[i] = bytes[at + i];
+    }
+    count
+}

@@ -1,0 +1,72 @@
+// The standard streams: the trusted edge, which tells no contents.
+ghost use Rattle.std.specs.Prelude.{◌≡◌, None};
+
+use crate::{Sink, SinkError, Source, SourceFault};
+use std::io::{Read, Write};
+use vb_cause::raised;
+
+/// A source over a stream, as standard input. It counts the reads that failed, and tells nothing of its bytes.
+#[derive(Drop)]
+pub struct StdSource<R> {
+    reader: R,
+    faults: u64,
+}
+
+impl<R: Read> StdSource<R> {
+    /// A source over this stream.
+    pub fn new(reader: R) -> StdSource<R>
+        ensures { result.faults ≡ 0 }
+    {
+        StdSource { reader, faults: 0 }
+    }
+}
+
+impl<R: Read> Source for StdSource<R> {
+    ghost left = { λ _. None };
+
+    ghost faults = { λ source. source.faults };
+
+    fn read(&mut self, into: &mut [u8]) -> Result<usize, SourceFault> {
+        match self.reader.read(into) {
+            Ok(count) => Ok(count),
+            Err(_) => {
+                self.faults = raised(self.faults);
+                Err(SourceFault)
+            }
+        }
+    }
+}
+
+/// A sink over a stream, as standard output. It counts the writes that failed, and tells nothing of its bytes.
+#[derive(Drop)]
+pub struct StdSink<W> {
+    writer: W,
+    faults: u64,
+}
+
+impl<W: Write> StdSink<W> {
+    /// A sink over this stream.
+    pub fn new(writer: W) -> StdSink<W>
+        ensures { result.faults ≡ 0 }
+    {
+        StdSink { writer, faults: 0 }
+    }
+}
+
+impl<W: Write> Sink for StdSink<W> {
+    ghost written = { λ _. None };
+
+    ghost faults = { λ sink. sink.faults };
+
+    ghost shortages = { λ _. 0 };
+
+    fn write(&mut self, piece: &[u8]) -> Result<usize, SinkError> {
+        match self.writer.write(piece) {
+            Ok(count) if count > 0 || piece.is_empty() => Ok(count),
+            _ => {
+                self.faults = raised(self.faults);
+                Err(SinkError::Failed)
+            }
+        }
+    }
+}

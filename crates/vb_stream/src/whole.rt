@@ -1,0 +1,103 @@
+// Many reads and writes in a row: a source's front, and a whole text.
+ghost use Rattle.std.specs.Prelude.{◌≡◌, ℕ, ◌+◌, ◌-◌, ◌≤◌, ◌<◌, List, [], ◌∷◌, ◌++◌, length, take, drop, Some, Err, IfOk, IsErr, true};
+ghost use Rattle.vb_stream.specs.declared.whole.TheConstants.{BUFFER};
+ghost use Rattle.vb_cause.specs.Faults.{HasRisen};
+ghost use Rattle.vb_stream.specs.Streams.{WritesWhole, TakesFront, HasGot, GetsMore, GetsFront};
+ghost use Rattle.vb_stream.specs.declared.sink.SinkError.{SinkError};
+
+use crate::{Sink, SinkError, Source, SourceFault};
+use std::alloc::{AllocError, Global};
+use vb_list::Items;
+
+/// Why a source wasn't read.
+#[derive(Clone, Copy, Debug, PartialEq, Eq)]
+pub enum ReadError {
+    Fault,
+    Memory,
+}
+
+/// How many bytes are asked for at once.
+const BUFFER: usize = 4096;
+
+/// Writes a whole text, in as many writes as the sink takes. Nothing is written after an error.
+pub fn write_whole<O: Sink>(sink: &mut O, text: &[u8]) -> Result<(), SinkError>
+    ensures written { (before : List ℕ) → O.written sink.old ≡ Some before → WritesWhole before text.now result (O.written sink.new) }
+    ensures failed { result ≡ Err SinkError.Failed → HasRisen (O.faults sink.old) (O.faults sink.new) }
+    ensures memory { result ≡ Err SinkError.Memory → HasRisen (O.shortages sink.old) (O.shortages sink.new) }
+    ensures faults_kept { O.faults sink.old ≤ O.faults sink.new }
+    ensures shortages_kept { O.shortages sink.old ≤ O.shortages sink.new }
+{
+    let mut rest = text;
+    while !rest.is_empty() {
+        match sink.write(rest) {
+            Ok(count) => rest = rest.split_at(count).1,
+            Err(error) => return Err(error),
+        }
+    }
+    Ok(())
+}
+
+/// Reads the first bytes of a source, to its end or as many as this. After an error the bytes that were read are lost.
+pub fn read_front<S: Source>(
+    alloc: Global,
+    source: &mut S,
+    most: usize,
+) -> Result<Items<u8>, ReadError>
+    ensures read { (bytes : List ℕ) → S.left source.old ≡ Some bytes → GetsFront most bytes result (S.left source.new) }
+    ensures short { IfOk result (λ got. length got ≤ most) }
+    ensures fault { result ≡ Err ReadError.Fault → HasRisen (S.faults source.old) (S.faults source.new) }
+    ensures kept { S.faults source.old ≤ S.faults source.new }
+{
+    let mut got = Items::new(alloc);
+    let mut buffer = [0; BUFFER];
+    while got.len() < most {
+        match read_more(source, &mut buffer, &mut got, most) {
+            Ok(true) => {}
+            Ok(false) => break,
+            Err(error) => return Err(error),
+        }
+    }
+    Ok(got)
+}
+
+/// Reads once, and answers whether there may be more.
+fn read_more<S: Source>(
+    source: &mut S,
+    buffer: &mut [u8; BUFFER],
+    got: &mut Items<u8>,
+    most: usize,
+) -> Result<bool, ReadError>
+    requires { length got.old < most }
+    ensures more { (bytes : List ℕ) → HasGot bytes got.old (S.left source.old) → GetsMore most bytes result got.new (S.left source.new) }
+    ensures short { length got.new ≤ most }
+    ensures longer { IfOk result (λ more. more ≡ true → length got.old < length got.new) }
+    ensures fault { result ≡ Err ReadError.Fault → HasRisen (S.faults source.old) (S.faults source.new) }
+    ensures kept { S.faults source.old ≤ S.faults source.new }
+{
+    let room = BUFFER.min(most - got.len());
+    let count = match read_some(source, buffer, room) {
+        Ok(count) => count,
+        Err(SourceFault) => return Err(ReadError::Fault),
+    };
+    let (front, _) = buffer.split_at(count);
+    match got.extend(front) {
+        Ok(()) => Ok(count > 0),
+        Err(AllocError) => Err(ReadError::Memory),
+    }
+}
+
+/// Reads into the front of a buffer.
+fn read_some<S: Source>(
+    source: &mut S,
+    buffer: &mut [u8; BUFFER],
+    room: usize,
+) -> Result<usize, SourceFault>
+    requires some { 0 < room }
+    requires within { room ≤ BUFFER }
+    ensures count { IfOk result (λ n. n ≤ room) }
+    ensures taken { (bytes : List ℕ) → S.left source.old ≡ Some bytes → TakesFront bytes result (take room buffer.new) (S.left source.new) }
+    ensures cause { IsErr result → HasRisen (S.faults source.old) (S.faults source.new) }
+    ensures kept { S.faults source.old ≤ S.faults source.new }
+{
+    source.read(&mut buffer[..room])
+}
