@@ -1,5 +1,5 @@
 -- The folder as contracts see it, and what each call makes of it.
-use Rattle.std.specs.Prelude.{◌≡◌, ℕ, ◌+◌, ◌-◌, ◌<◌, ◌≤◌, Bool, true, false, not, ◌||◌, is_some, ◌==◌, if◌then◌else◌, List, [], ◌∷◌, ◌++◌, Option, Some, None, Result, Ok, Err, IfSome, IsSome}
+use Rattle.std.specs.Prelude.{◌≡◌, ℕ, ◌+◌, ◌<◌, ◌≤◌, Bool, true, false, not, ◌||◌, is_some, ◌==◌, if◌then◌else◌, List, [], ◌∷◌, ◌++◌, Option, Some, None, Result, Ok, Err, IfSome, IsSome}
 use Rattle.vb_tree.specs.declared.tree.Limits.{Limits}
 use Rattle.vb_tree.specs.declared.tree.TreeEntry.{TreeEntry}
 use Rattle.vb_tree.specs.declared.operation.Op.{Op}
@@ -75,7 +75,8 @@ frozen_while_on Committed frozen = frozen
 abbrev pub after_call : Core → ℕ → Op → Core
 after_call core writer op =
     record (recorded core (Call writer op (reply_of core.limits core.active op))) {
-        active = tree_after core.limits core.active op }
+      active = tree_after core.limits core.active op;
+    }
 
 -- what a freeze answers: Busy, else Spent, else the last epoch plus one
 abbrev pub freeze_answer : Core → FolderAnswer
@@ -87,7 +88,11 @@ freeze_answer core =
 abbrev pub after_freeze : Core → ℕ → FolderAnswer → Core
 after_freeze core by (answers.Frozen epoch) =
     record (recorded core (Freeze by epoch)) {
-        epoch = epoch; standing = Some epoch; stage = Written; frozen = Some core.active }
+      epoch = epoch;
+      standing = Some epoch;
+      stage = Written;
+      frozen = Some core.active;
+    }
 after_freeze core by (answers.Busy epoch) = recorded core (FreezeBusy by epoch)
 after_freeze core by other = core
 
@@ -149,8 +154,11 @@ tree_in (Some tree) = tree
 abbrev pub after_upload_step : Core → UploadStep → Core
 after_upload_step core (uploads.Published epoch) =
     record (recorded core (Publish epoch)) {
-        published = epoch; published_tree = tree_in core.frozen; standing = None;
-        frozen = frozen_while_on core.stage core.frozen }
+      published = epoch;
+      published_tree = tree_in core.frozen;
+      standing = None;
+      frozen = frozen_while_on core.stage core.frozen;
+    }
 after_upload_step core uploads.Nothing = core
 
 -- after the view was dropped, where one stood
@@ -195,6 +203,15 @@ core_after core events.CommitStep = after_commit_step core (commit_answer core.s
 core_after core events.UploadStep = after_upload_step core (upload_answer core.standing core.stage)
 core_after core events.DropView = after_drop core core.standing
 core_after core (events.End writer) = after_end core writer
+
+-- how many entries an event pushes
+abbrev pub pushed_by : Core → FolderEvent → ℕ
+pushed_by core (events.Call writer op) = 1
+pushed_by core (events.Freeze by) = pushed_by_freeze (freeze_answer core)
+pushed_by core events.CommitStep = pushed_by_commit (commit_answer core.stage)
+pushed_by core events.UploadStep = pushed_by_upload (upload_answer core.standing core.stage)
+pushed_by core events.DropView = pushed_by_drop core.standing
+pushed_by core (events.End writer) = 1
 
 -- the event's operation, where it has one, is in its ranges
 abbrev pub IsEventInRange : FolderEvent → Type 0

@@ -36,11 +36,19 @@ impl Model for Folder {
     ghost Value = { FolderView };
 
     ghost view = { λ a. record {
-        core = record {
-            limits = a.active.limits; history = a.history.entries; epoch = a.epoch; published = a.cloud.epoch;
-            published_tree = a.cloud.tree; standing = a.standing; stage = a.stage; active = a.active.tree;
-            frozen = option_map (λ p. p.tree) a.frozen };
-        spare = a.history.spare } };
+      core = record {
+        limits = a.active.limits;
+        history = a.history.entries;
+        epoch = a.epoch;
+        published = a.cloud.epoch;
+        published_tree = a.cloud.tree;
+        standing = a.standing;
+        stage = a.stage;
+        active = a.active.tree;
+        frozen = option_map (λ p. p.tree) a.frozen;
+      };
+      spare = a.history.spare;
+    } };
 
     ghost invariant = { λ a. IsKept a.epoch a.cloud.epoch a.standing a.stage (option_map (λ p. p.tree) a.frozen) };
 }
@@ -124,11 +132,13 @@ impl Folder {
     {
         let before = self.history.spare();
         self.history.reserve(1)?;
-        let outcome = self.call_reserved(alloc, writer, op);
-        if outcome.is_err() {
-            self.history.forget_spare(before);
+        match self.call_reserved(alloc, writer, op) {
+            Ok(reply) => Ok(reply),
+            Err(error) => {
+                self.history.forget_spare(before);
+                Err(error)
+            }
         }
-        outcome
     }
 
     /// The same where an entry can be pushed without memory.
@@ -141,7 +151,11 @@ impl Folder {
     {
         let kept = op.copy(alloc)?;
         let reply = self.active.perform(alloc, op)?;
-        let told = reply.copy(alloc)?;
+        // Where the reply is Done the tree has changed, so nothing may fail any more. Any other reply left it.
+        let told = match &reply {
+            Reply::Done => Reply::Done,
+            other => other.copy(alloc)?,
+        };
         self.history.push(Entry::Call {
             writer,
             op: kept,
@@ -156,8 +170,9 @@ impl Folder {
         requires { 0 < self.old.spare }
         ensures answer { FreezeGives result (freeze_answer self.old.core) }
         ensures told { (result ≡ Err FreezeError.Memory → ⊥) → self.new ≡ record {
-            core = after_freeze self.old.core by (freeze_answer self.old.core);
-            spare = self.old.spare - pushed_by_freeze (freeze_answer self.old.core) } }
+          core = after_freeze self.old.core by (freeze_answer self.old.core);
+          spare = self.old.spare - pushed_by_freeze (freeze_answer self.old.core);
+        } }
         ensures memory { result ≡ Err FreezeError.Memory → self.new ≡ self.old }
         ensures sound { (o : Opening) → IsSound o self.old.core → IsSound o self.new.core }
     {
@@ -188,7 +203,9 @@ impl Folder {
     pub fn commit_step(&mut self) -> Result<CommitStep, AllocError>
         ensures answer { IfOk result (λ step. step ≡ commit_answer self.old.core.stage) }
         ensures ok { IfOk result (λ step. self.new ≡ record {
-            core = after_commit_step self.old.core step; spare = self.old.spare - pushed_by_commit step }) }
+          core = after_commit_step self.old.core step;
+          spare = self.old.spare - pushed_by_commit step;
+        }) }
         ensures err { OnErr result (self.new ≡ self.old) }
         ensures sound { (o : Opening) → IsSound o self.old.core → IsSound o self.new.core }
     {
@@ -216,7 +233,9 @@ impl Folder {
     pub fn upload_step(&mut self, alloc: Global) -> Result<UploadStep, AllocError>
         ensures answer { IfOk result (λ step. step ≡ upload_answer self.old.core.standing self.old.core.stage) }
         ensures ok { IfOk result (λ step. self.new ≡ record {
-            core = after_upload_step self.old.core step; spare = self.old.spare - pushed_by_upload step }) }
+          core = after_upload_step self.old.core step;
+          spare = self.old.spare - pushed_by_upload step;
+        }) }
         ensures err { OnErr result (self.new ≡ self.old) }
         ensures sound { (o : Opening) → IsSound o self.old.core → IsSound o self.new.core }
     {
@@ -240,7 +259,9 @@ impl Folder {
         requires spare { 0 < self.old.spare }
         requires standing { self.old.core.standing ≡ Some epoch }
         ensures ok { OnOk result (self.new ≡ record {
-            core = after_upload_step self.old.core (UploadStep.Published epoch); spare = self.old.spare - 1 }) }
+          core = after_upload_step self.old.core (UploadStep.Published epoch);
+          spare = self.old.spare - 1;
+        }) }
         ensures err { OnErr result (self.new ≡ self.old) }
     {
         let Some(frozen) = &self.frozen else {
@@ -251,17 +272,21 @@ impl Folder {
             Err(CloudRefusal::Memory) => return Err(AllocError),
             Err(CloudRefusal::NotLater { .. }) => unreachable!(),
         }
+        self.standing = None;
         self.history.push(Entry::Publish { epoch });
-        self.release_view();
+        self.let_frozen_go();
         Ok(())
     }
 
-    /// No view stands any more. The frozen tree is let go unless its commit is still on.
-    fn release_view(&mut self)
-        ensures { self.new ≡ record self.old { core = record self.old.core {
-            standing = None; frozen = frozen_while_on self.old.core.stage self.old.core.frozen } } }
+    /// Lets the frozen tree go, unless its commit is still on.
+    fn let_frozen_go(&mut self)
+        requires { self.old.core.standing ≡ None }
+        ensures { self.new ≡ record self.old {
+          core = record self.old.core {
+            frozen = frozen_while_on self.old.core.stage self.old.core.frozen;
+          };
+        } }
     {
-        self.standing = None;
         if self.stage == Stage::Rested {
             self.frozen = None;
         }
@@ -272,15 +297,17 @@ impl Folder {
         requires { 0 < self.old.spare }
         ensures answer { DropGives result self.old.core.standing }
         ensures new { self.new ≡ record {
-            core = after_drop self.old.core self.old.core.standing;
-            spare = self.old.spare - pushed_by_drop self.old.core.standing } }
+          core = after_drop self.old.core self.old.core.standing;
+          spare = self.old.spare - pushed_by_drop self.old.core.standing;
+        } }
         ensures sound { (o : Opening) → IsSound o self.old.core → IsSound o self.new.core }
     {
         let Some(epoch) = self.standing else {
             return Err(NoView);
         };
+        self.standing = None;
         self.history.push(Entry::Dropped { epoch });
-        self.release_view();
+        self.let_frozen_go();
         Ok(epoch)
     }
 

@@ -1,5 +1,5 @@
 -- A legal history grows by an entry that may follow it, and is legal up to there.
-use Rattle.std.proofs.Common.{◌≡◌, ℕ, List, [], ◌∷◌, ◌++◌, refl}
+use Rattle.std.proofs.Common.{List, [], ◌∷◌, ◌++◌}
 use Rattle.std.specs.List.{fold}
 use Rattle.vb_hist.specs.declared.entry.Entry.{Entry}
 use Rattle.vb_hist.specs.Histories.{survivors_after, folder_after}
@@ -9,7 +9,7 @@ use Rattle.vb_hist.specs.Legal.{Opening, AreLegalAfter, MayFollow, marks_after, 
 abbrev pub FollowsAll : Opening → List Entry → List Entry → Entry → Type 0
 FollowsAll o line entries entry =
     MayFollow (fold marks_after (marks_at_start o) (fold (survivors_after o.start) line entries))
-        (folder_after o.base (fold (survivors_after o.start) line entries)) entry
+    (folder_after o.base (fold (survivors_after o.start) line entries)) entry
 
 pub legal-push : (o : Opening) (line entries : List Entry) (entry : Entry) → AreLegalAfter o line entries → FollowsAll o line entries entry → AreLegalAfter o line (entries ++ entry ∷ [])
 legal-push o line [] entry legal follows = (follows, tt)

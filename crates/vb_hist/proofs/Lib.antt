@@ -1,2 +1,4 @@
 pub mod Survivors
 pub mod Growth
+pub mod Fronts
+pub mod Pushed

@@ -1,6 +1,6 @@
 -- Histories: the folder after one, and what survives of it where something was cut.
-use Rattle.std.specs.Prelude.{◌≡◌, ℕ, Bool, true, false, ◌==◌, if◌then◌else◌, List, [], ◌∷◌, ◌++◌, length, drop}
-use Rattle.std.specs.List.{fold, filter, AllByRecursion}
+use Rattle.std.specs.Prelude.{◌≡◌, ℕ, Bool, true, false, ◌||◌, ◌==◌, if◌then◌else◌, IsTrue, List, [], ◌∷◌, ◌++◌, length, drop}
+use Rattle.std.specs.List.{fold, filter, list_any, AllByRecursion}
 use Rattle.vb_tree.specs.declared.tree.TreeEntry.{TreeEntry}
 use Rattle.vb_tree.specs.Operations.{tree_after_reply}
 use Rattle.vb_hist.specs.declared.entry.Entry.{Entry}
@@ -51,6 +51,10 @@ up_to_freeze epoch (entry ∷ entries) = if is_freeze_of epoch entry then entry 
 -- the same for an epoch that may be the start, up to which there is nothing
 abbrev pub up_to_epoch : ℕ → ℕ → List Entry → List Entry
 up_to_epoch start epoch line = if epoch == start then [] else up_to_freeze epoch line
+
+-- the epoch is the start, or its freeze is there
+abbrev pub IsFrozenAt : ℕ → ℕ → List Entry → Type 0
+IsFrozenAt start epoch line = IsTrue ((epoch == start) || list_any (is_freeze_of epoch) line)
 
 -- what survives after one more entry: a cut takes away what follows the freeze that it goes back to, except publications
 abbrev pub survivors_after : ℕ → List Entry → Entry → List Entry

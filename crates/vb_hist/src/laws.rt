@@ -7,8 +7,7 @@ ghost use Rattle.vb_hist.specs.Legal.{Opening, IsLegal, MayFollow, marks_of, fol
 /// A history in which nothing was cut is what survives of it.
 pub fn history_without_cut_survives()
     ensures { (start : ℕ) (history : List Entry) → HasNoCut history → surviving start history ≡ history }
-{
-}
+{}
 
 /// A history is legal exactly where its front is, and its last entry may follow the marks and the folder of that front.
 pub fn legal_histories_grow()
@@ -18,5 +17,4 @@ pub fn legal_histories_grow()
         IsLegal o (history ++ entry ∷ []) → IsLegal o history }
     ensures last { (o : Opening) (history : List Entry) (entry : Entry) →
         IsLegal o (history ++ entry ∷ []) → MayFollow (marks_of o history) (folder_of o history) entry }
-{
-}
+{}

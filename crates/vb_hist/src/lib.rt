@@ -8,5 +8,5 @@ mod script;
 
 pub use entry::{Entry, Stage};
 pub use history::History;
-pub use script::{Line, Lines, Scripts, WriterScript};
 pub use laws::{history_without_cut_survives, legal_histories_grow};
+pub use script::{Line, Lines, Scripts, WriterScript};

@@ -1,0 +1,4 @@
+pub mod Noted
+pub mod Steps
+pub mod Epochs
+pub mod Moments
