@@ -1,8 +1,8 @@
 -- Trees: their entries, what stands where, and how much they take.
-use Rattle.std.specs.Prelude.{ℕ, ◌+◌, ◌/◌, ◌≤◌, if◌then◌else◌, List, [], ◌∷◌, length, Option, Some, None}
+use Rattle.std.specs.Prelude.{ℕ, ◌+◌, ◌-◌, ◌/◌, ◌≤◌, ◌==◌, Bool, if◌then◌else◌, List, [], ◌∷◌, length, Option, Some, None}
 use Rattle.std.specs.Option.{option_map}
 use Rattle.std.specs.Ordering.{is_lt}
-use Rattle.std.specs.List.{sum_by}
+use Rattle.std.specs.List.{find, sum_by}
 use Rattle.vb_tree.specs.declared.tree.Kind.{Kind}
 use Rattle.vb_tree.specs.declared.tree.Kind.TheVariants.{Folder}
 use Rattle.vb_tree.specs.declared.tree.Limits.{Limits}
@@ -16,13 +16,15 @@ pub record LimitedTree : Type 0 where
 
 -- the first entry at a path
 abbrev pub entry_at : List (List ℕ) → List TreeEntry → Option TreeEntry
-entry_at path [] = None
-entry_at path (e ∷ es) = if same_path path e.path then Some e else entry_at path es
+entry_at path tree = find (λ e. same_path path e.path) tree
+
+-- whether a path is the root
+abbrev pub is_root : List (List ℕ) → Bool
+is_root path = length path == 0
 
 -- what stands at a path: the root is a folder, and every other place has what its entry is
 abbrev pub kind_at : List (List ℕ) → List TreeEntry → Option Kind
-kind_at [] tree = Some Folder
-kind_at (part ∷ parts) tree = option_map (λ e. e.kind) (entry_at (part ∷ parts) tree)
+kind_at path tree = if is_root path then Some Folder else option_map (λ e. e.kind) (entry_at path tree)
 
 -- the bytes at a path, none where nothing stands
 abbrev pub bytes_in : Option TreeEntry → List ℕ
@@ -50,6 +52,10 @@ pages_of_length len = data_pages_of len + (data_pages_of len + 112) / 113
 -- how many pages all files take
 abbrev pub page_count : List TreeEntry → ℕ
 page_count tree = sum_by (λ e. pages_of_length (length e.bytes)) tree
+
+-- how many pages all files take once one of them has another length
+abbrev pub pages_after : List TreeEntry → TreeEntry → ℕ → ℕ
+pages_after tree changed len = page_count tree - pages_of_length (length changed.bytes) + pages_of_length len
 
 -- how many nodes a tree has, the root among them
 abbrev pub node_count : List TreeEntry → ℕ

@@ -1,8 +1,12 @@
 // Paths, operations, and the plain list tree that plays them.
 #![tactic(auto)]
 
+mod checks;
+mod entries;
 mod operation;
+mod parse;
 mod path;
+mod path_order;
 mod plain;
 mod tree;
 

@@ -1,0 +1,5 @@
+pub mod Lookups
+pub mod Pieces
+pub mod ReadText
+pub mod Sizes
+pub mod Ways
