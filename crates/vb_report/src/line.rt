@@ -113,7 +113,7 @@ fn put_op(line: &mut Bytes, op: &Op) -> Result<(), AllocError>
 }
 
 /// A word, and an epoch behind it.
-fn put_epoch(line: &mut Bytes, word: &[u8], epoch: u64) -> Result<(), AllocError>
+pub fn put_epoch(line: &mut Bytes, word: &[u8], epoch: u64) -> Result<(), AllocError>
     ensures { OnOk result (line.new ≡ line.old ++ epoch_line word.now epoch) }
 {
     line.extend(word)?;

@@ -1,8 +1,8 @@
 // A report: lines of a history and a listing, in one buffer.
 ghost use Rattle.std.specs.Prelude.{◌≡◌, ◌++◌, ◌≤◌, ℕ, [], length, take, OnOk, OnErr};
-ghost use Rattle.vb_report.specs.Text.{entry_text, history_text, listing_text, tree_entry_text};
+ghost use Rattle.vb_report.specs.Text.{entry_text, history_text, epoch_line, listing_text, tree_entry_text};
 
-use crate::line::{put_entry, put_heading, put_listed};
+use crate::line::{put_entry, put_epoch, put_heading, put_listed};
 use std::alloc::{AllocError, Global};
 use std::marker::Model;
 use vb_cloud::Cloud;
@@ -50,6 +50,16 @@ impl Report {
     {
         self.line.truncate(0);
         put_entry(&mut self.line, entry)?;
+        self.text.extend(self.line.slice())
+    }
+
+    /// Adds a line of these words and a number behind them.
+    pub fn numbered(&mut self, words: &[u8], number: u64) -> Result<(), AllocError>
+        ensures ok { OnOk result (self.new ≡ self.old ++ epoch_line words.now number) }
+        ensures err { OnErr result (self.new ≡ self.old) }
+    {
+        self.line.truncate(0);
+        put_epoch(&mut self.line, words, number)?;
         self.text.extend(self.line.slice())
     }
 
