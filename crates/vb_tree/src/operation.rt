@@ -73,21 +73,3 @@ pub enum Refusal {
     TooManyNodes { nodes: u32, limit: u32 },
     NoSpace { pages: u64, limit: u64 },
 }
-
-impl Op {
-    /// An equal operation.
-    pub fn copy(&self, alloc: Global) -> Result<Op, AllocError>
-        ensures { IfOk result (λ op. op ≡ self.now) }
-    {
-        Err(AllocError)
-    }
-}
-
-impl Reply {
-    /// An equal reply.
-    pub fn copy(&self, alloc: Global) -> Result<Reply, AllocError>
-        ensures { IfOk result (λ reply. reply ≡ self.now) }
-    {
-        Err(AllocError)
-    }
-}
