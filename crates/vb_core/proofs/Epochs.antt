@@ -1,7 +1,8 @@
 -- A freeze and a publication keep a folder sound.
-use Rattle.std.proofs.Common.{◌≡◌, ◌≢◌, ℕ, ◌+◌, ◌<◌, ◌≤◌, ◌⊎◌, inl, inr, Bool, true, false, not, ◌||◌, ◌==◌, is_some, if◌then◌else◌, IfSome, List, [], ◌∷◌, Option, Some, None, refl, ap, sym, ◌∙◌, subst, arith}
+use Rattle.std.proofs.Common.{◌≡◌, ◌≢◌, ℕ, ◌+◌, ◌<◌, ◌≤◌, ◌⊎◌, inl, inr, Bool, true, false, not, ◌||◌, ◌==◌, is_some, if◌then◌else◌, IfSome, List, [], ◌∷◌, ◌++◌, Option, Some, None, refl, ap, sym, ◌∙◌, subst, subst₂, append_assoc, append-nil, arith}
 use Rattle.std.specs.List.{AllByRecursion, list_any}
 use Rattle.std.proofs.lemmas.Bool.Decides.{nat_tests}
+use mathlib.Core.List.{IsPrefix}
 use Rattle.vb_hist.specs.declared.entry.Entry.{Entry}
 use Rattle.vb_hist.specs.declared.entry.Entry.TheVariants.{Call, Freeze, FreezeBusy, Commit, Rest, Publish, Doubt, Dropped, End, Cut}
 use Rattle.vb_hist.specs.declared.entry.Stage.{Stage}
@@ -14,9 +15,9 @@ use Rattle.vb_hist.proofs.Pushed.{all-push}
 use Rattle.vb_core.specs.declared.event.FolderAnswer.TheVariants as answers
 use Rattle.vb_core.specs.declared.event.UploadStep.TheVariants as uploads
 use Rattle.vb_core.specs.Core.{Core, greatest_epoch, is_busy, is_rested, freeze_answer, after_freeze, tree_in, after_upload_step, upload_answer}
-use Rattle.vb_core.specs.Sound.{IsSound, IsNoFreezeAbove}
-use Rattle.vb_core.proofs.Noted.{longer, noted, same, shown_stays, shown_frozen}
-use Rattle.vb_core.proofs.Steps.{let_go, sound-busy}
+use Rattle.vb_core.specs.Sound.{IsSound, IsNoFreezeAbove, published_front}
+use Rattle.vb_core.proofs.Noted.{longer, front_of, front_stays, noted, same, shown_stays, shown_frozen}
+use Rattle.vb_core.proofs.Transitions.{let_go, sound-busy}
 
 -- no freeze is above the last epoch: that of a later epoch isn't there
 none-frozen : (last epoch : ℕ) (history : List Entry) → last < epoch → AllByRecursion (IsNoFreezeAbove last) history → list_any (is_freeze_of epoch) history ≡ false
@@ -52,6 +53,10 @@ none_above-next : (last : ℕ) (history : List Entry) → AllByRecursion (IsNoFr
 none_above-next last [] all = tt
 none_above-next last (entry ∷ entries) all = (low-next last entry all.0, none_above-next last entries all.1)
 
+-- a front of a list is one of a longer list
+pub front-append : {X : Type 0} (front xs later : List X) → IsPrefix front xs → IsPrefix front (xs ++ later)
+front-append front xs later h = (h.0 ++ later, sym (append_assoc front h.0 later) ∙ ap (λ l. l ++ later) h.1)
+
 -- where a folder isn't busy, no view stands and the stage is at rest
 idle : (standing : Option ℕ) (stage : Stage) → (is_some standing || not (is_rested stage)) ≡ false → (standing ≡ None) × (stage ≡ Rested)
 idle (Some epoch) stage h = cc
@@ -81,6 +86,8 @@ sound-frozen o core by free s =
       from_start = omega (arith, s.from_start);
       published_is_frozen = shown_frozen o core (Freeze by (core.epoch + 1)) s.published_is_frozen n;
       published_is_past = omega (arith, s.published_is_past);
+      published_in_last = subst₂ (λ f l. IsPrefix f l) (sym (front_stays o core (Freeze by (core.epoch + 1)) s)) (sym (up_to_epoch-freeze o.start (core.epoch + 1) by core.history from none))
+          (front-append (published_front o core.history core.published) core.history (Freeze by (core.epoch + 1) ∷ []) (front_of o core.history core.published));
     }
 
 sound-freeze_at : (o : Opening) (core : Core) (by : ℕ) (busy spent : Bool) → is_busy core ≡ busy → IsSound o core
@@ -117,6 +124,7 @@ sound-published o core epoch is on s =
       from_start = s.from_start;
       published_is_frozen = inr (past, subst (λ e. IsFrozenAt o.start e (longer core (Publish epoch))) (sym last.0) (n.stands core.epoch s.last_is_frozen));
       published_is_past = omega (arith, last.0);
+      published_in_last = ([], append-nil (published_front o (longer core (Publish epoch)) epoch) ∙ (ap (λ b. if b then [] else up_to_epoch o.start epoch (longer core (Publish epoch))) other ∙ ap (λ e. up_to_epoch o.start e (longer core (Publish epoch))) last.0));
     }
   where
     above : (core.published ≡ o.published) ⊎ ((o.published < core.published) × IsFrozenAt o.start core.published core.history) → core.published < epoch → o.published < epoch

@@ -1,4 +1,5 @@
 pub mod Noted
-pub mod Steps
+pub mod Transitions
 pub mod Epochs
 pub mod Moments
+pub mod Lists

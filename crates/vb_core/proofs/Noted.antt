@@ -1,14 +1,16 @@
 -- A sound folder whose history has one more entry.
-use Rattle.std.proofs.Common.{◌≡◌, ℕ, ◌<◌, ◌⊎◌, inl, inr, true, false, not, ◌||◌, ◌==◌, is_some, if◌then◌else◌, IfSome, List, [], ◌∷◌, ◌++◌, Option, Some, None, Result, Ok, Err, IfOk, OnErr, refl, ap, sym, ◌∙◌, subst, subst₂, arith}
+use Rattle.std.proofs.Common.{◌≡◌, ℕ, ◌<◌, ◌⊎◌, inl, inr, Bool, true, false, not, ◌||◌, ◌==◌, is_some, if◌then◌else◌, IfSome, List, [], ◌∷◌, ◌++◌, Option, Some, None, Result, Ok, Err, IfOk, OnErr, refl, ap, sym, ◌∙◌, subst, subst₂, arith}
+use mathlib.Core.List.{IsPrefix}
 use Rattle.vb_tree.specs.declared.tree.TreeEntry.{TreeEntry}
 use Rattle.vb_hist.specs.declared.entry.Entry.{Entry}
 use Rattle.vb_hist.specs.declared.entry.Stage.{Stage}
-use Rattle.vb_hist.specs.Histories.{HasNoCut, IsFrozenAt, is_cut, tree_after_entry}
+use Rattle.vb_hist.specs.Histories.{HasNoCut, IsFrozenAt, is_cut, tree_after_entry, up_to_epoch}
 use Rattle.vb_hist.specs.Legal.{Opening, IsLegal, MayFollow, marks_after, marks_of, folder_of, folder_at}
 use Rattle.vb_hist.proofs.Growth.{legal-push}
+use Rattle.vb_hist.proofs.Fronts.{up_to_epoch-append, up_to_epoch-front}
 use Rattle.vb_hist.proofs.Pushed.{all-push, marks_of-push, folder_of-push, folder_at-push, IsFrozenAt-append}
 use Rattle.vb_core.specs.Core.{Core, is_rested, recorded}
-use Rattle.vb_core.specs.Sound.{IsSound, IsNoFreezeAbove, told_marks, published_tree_at}
+use Rattle.vb_core.specs.Sound.{IsSound, IsNoFreezeAbove, told_marks, published_tree_at, published_front}
 
 -- the history with one more entry
 abbrev pub longer : Core → Entry → List Entry
@@ -47,6 +49,23 @@ shown_stays o core entry s n = at s.published_is_frozen
     at (inl is) = subst (λ q. published_tree_at o (longer core entry) q ≡ published_tree_at o core.history q) (sym is) (rw (same o.published) refl)
     at (inr frozen) = ap (λ t. if core.published == o.published then o.published_tree else t) (n.stays core.published frozen.1)
 
+-- the front that the cloud shows is the same after one more entry
+pub front_stays : (o : Opening) (core : Core) (entry : Entry) → IsSound o core → published_front o (longer core entry) core.published ≡ published_front o core.history core.published
+front_stays o core entry s = at s.published_is_frozen
+  where
+    at : (core.published ≡ o.published) ⊎ ((o.published < core.published) × IsFrozenAt o.start core.published core.history)
+        → published_front o (longer core entry) core.published ≡ published_front o core.history core.published
+    at (inl is) = subst (λ q. published_front o (longer core entry) q ≡ published_front o core.history q) (sym is) (rw (same o.published) refl)
+    at (inr frozen) = ap (λ l. if core.published == o.published then [] else l) (up_to_epoch-append o.start core.published core.history (entry ∷ []) frozen.1)
+
+-- the front that the cloud shows is a front of the history
+pub front_of : (o : Opening) (history : List Entry) (epoch : ℕ) → IsPrefix (published_front o history epoch) history
+front_of o history epoch = at (epoch == o.published)
+  where
+    at : (b : Bool) → IsPrefix (if b then [] else up_to_epoch o.start epoch history) history
+    at true = (history, refl)
+    at false = up_to_epoch-front o.start epoch history
+
 -- a published epoch that is frozen stays so
 pub shown_frozen : (o : Opening) (core : Core) (entry : Entry) → (core.published ≡ o.published) ⊎ ((o.published < core.published) × IsFrozenAt o.start core.published core.history) → IsNoted o core entry
     → (core.published ≡ o.published) ⊎ ((o.published < core.published) × IsFrozenAt o.start core.published (longer core entry))
@@ -76,6 +95,7 @@ still_sound o core entry standing stage active frozen s no_cut may low marks tre
       from_start = s.from_start;
       published_is_frozen = shown_frozen o core entry s.published_is_frozen n;
       published_is_past = s.published_is_past;
+      published_in_last = subst₂ (λ f l. IsPrefix f l) (sym (front_stays o core entry s)) (sym (up_to_epoch-append o.start core.epoch core.history (entry ∷ []) s.last_is_frozen)) s.published_in_last;
     }
 
 -- a folder that is a sound one is sound

@@ -1,11 +1,12 @@
 -- Sound folders: what ties a folder to its history and to an opening.
 use Rattle.std.specs.Prelude.{◌≡◌, ℕ, ◌<◌, ◌≤◌, ◌⊎◌, ◌==◌, if◌then◌else◌, List, [], Option, Some, None, IfSome}
 use Rattle.std.specs.List.{AllByRecursion}
+use mathlib.Core.List.{IsPrefix}
 use Rattle.vb_tree.specs.declared.tree.Limits.{Limits}
 use Rattle.vb_tree.specs.declared.tree.TreeEntry.{TreeEntry}
 use Rattle.vb_hist.specs.declared.entry.Entry.{Entry}
 use Rattle.vb_hist.specs.declared.entry.Entry.TheVariants.{Freeze}
-use Rattle.vb_hist.specs.Histories.{HasNoCut, IsFrozenAt}
+use Rattle.vb_hist.specs.Histories.{HasNoCut, IsFrozenAt, up_to_epoch}
 use Rattle.vb_hist.specs.Legal.{Opening, Marks, IsLegal, marks_of, folder_of, folder_at}
 use Rattle.vb_core.specs.Core.{Core, is_busy}
 
@@ -41,6 +42,11 @@ told_marks core = record {
 abbrev pub published_tree_at : Opening → List Entry → ℕ → List TreeEntry
 published_tree_at o history epoch = if epoch == o.published then o.published_tree else folder_at o history epoch
 
+-- the front of the history that the cloud shows: nothing of it while the opening's epoch is shown, and else all up to
+-- the freeze of the epoch that is shown
+abbrev pub published_front : Opening → List Entry → ℕ → List Entry
+published_front o history epoch = if epoch == o.published then [] else up_to_epoch o.start epoch history
+
 -- the frozen tree: the folder at the last freeze while a view stands or a commit is on, and none else
 abbrev pub frozen_tree_at : Opening → Core → Option (List TreeEntry)
 frozen_tree_at o core = if is_busy core then Some (folder_at o core.history core.epoch) else None
@@ -68,3 +74,5 @@ pub record IsSound (o : Opening) (core : Core) : Type 0 where
   -- the published epoch is the opening's or is frozen
   pub published_is_frozen : (core.published ≡ o.published) ⊎ ((o.published < core.published) × IsFrozenAt o.start core.published core.history)
   pub published_is_past : core.published ≤ core.epoch
+  -- what the cloud shows is a front of the history up to the last freeze
+  pub published_in_last : IsPrefix (published_front o core.history core.published) (up_to_epoch o.start core.epoch core.history)

@@ -1,5 +1,5 @@
 // The folder itself: each of its calls is one event.
-ghost use Rattle.std.specs.Prelude.{◌≡◌, ◌+◌, ◌-◌, ◌<◌, ◌≤◌, ◌∷◌, ◌++◌, [], max, min, true, false, None, Some, Ok, Err, IfOk, OnOk, OnErr, IfSome, IfNone};
+ghost use Rattle.std.specs.Prelude.{◌≡◌, ◌+◌, ◌-◌, ◌<◌, ◌≤◌, ◌∷◌, ◌++◌, [], max, min, true, false, None, Some, Ok, Err, IsOk, IfOk, OnOk, OnErr, IfSome, IfNone};
 ghost use Rattle.vb_tree.specs.Trees.{AreInLimits};
 ghost use Rattle.vb_tree.specs.Operations.{IsInRange, reply_of};
 ghost use Rattle.vb_hist.specs.Legal.{Opening};
@@ -60,6 +60,7 @@ impl Folder {
         ensures sound { IfOk result (λ folder. IsSound (new_opening limits) folder.core) }
         ensures empty { IfOk result (λ folder. folder.core.history ≡ []) }
         ensures spare { IfOk result (λ folder. folder.spare ≡ 0) }
+        ensures succeeds { IsOk result }
     {
         Ok(Folder {
             active: Plain::new(alloc, limits),
@@ -83,6 +84,7 @@ impl Folder {
     pub fn reserve(&mut self, n: usize) -> Result<(), AllocError>
         ensures ok { OnOk result (self.new ≡ record self.old { spare = max self.old.spare n }) }
         ensures err { OnErr result (self.new ≡ self.old) }
+        ensures enough { n ≤ self.old.spare → IsOk result }
     {
         self.history.reserve(n)
     }
@@ -207,6 +209,8 @@ impl Folder {
           spare = self.old.spare - pushed_by_commit step;
         }) }
         ensures err { OnErr result (self.new ≡ self.old) }
+        ensures idle { self.old.core.stage ≡ Stage.Rested → IsOk result }
+        ensures enough { 0 < self.old.spare → IsOk result }
         ensures sound { (o : Opening) → IsSound o self.old.core → IsSound o self.new.core }
     {
         match self.stage {
@@ -237,6 +241,7 @@ impl Folder {
           spare = self.old.spare - pushed_by_upload step;
         }) }
         ensures err { OnErr result (self.new ≡ self.old) }
+        ensures nothing { upload_answer self.old.core.standing self.old.core.stage ≡ UploadStep.Nothing → IsOk result }
         ensures sound { (o : Opening) → IsSound o self.old.core → IsSound o self.new.core }
     {
         let Some(epoch) = self.standing else {

@@ -3,8 +3,8 @@
 
 mod event;
 mod folder;
-mod play;
+mod steps;
 
 pub use event::{CommitStep, FolderAnswer, FolderEvent, FreezeError, NoView, UploadStep};
 pub use folder::Folder;
-pub use play::Played;
+pub use steps::{Played, play};

@@ -1,5 +1,5 @@
 // A history: a list of entries that only grows.
-ghost use Rattle.std.specs.Prelude.{◌≡◌, ◌+◌, ◌-◌, ◌<◌, ◌≤◌, max, [], ◌∷◌, ◌++◌, min, length, IsTrue, ◌↔◌, OnOk, OnErr, slice_get, Some};
+ghost use Rattle.std.specs.Prelude.{◌≡◌, ◌+◌, ◌-◌, ◌<◌, ◌≤◌, max, [], ◌∷◌, ◌++◌, min, length, IsTrue, ◌↔◌, IsOk, OnOk, OnErr, slice_get, Some};
 
 use crate::Entry;
 use std::alloc::{AllocError, Global};
@@ -38,6 +38,7 @@ impl History {
     pub fn reserve(&mut self, n: usize) -> Result<(), AllocError>
         ensures ok { OnOk result (self.new ≡ record self.old { spare = max self.old.spare n }) }
         ensures err { OnErr result (self.new ≡ self.old) }
+        ensures enough { n ≤ self.old.spare → IsOk result }
     {
         if self.spare < n {
             self.entries.reserve(n)?;

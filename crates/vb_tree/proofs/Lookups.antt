@@ -1,5 +1,5 @@
 -- What the place of an entry says of it, and where a new entry stands.
-use Rattle.std.proofs.Common.{◌≡◌, ℕ, zero, suc, ◌+◌, ◌<◌, ◌≤◌, Bool, true, false, cond, not, List, [], ◌∷◌, ◌++◌, length, take, drop, get_or, set, position, unwrap_or, MatchOption, Option, Some, None, refl, sym, ap, ◌∙◌, subst, one-add, arith}
+use Rattle.std.proofs.Common.{◌≡◌, ℕ, ◌+◌, ◌<◌, ◌≤◌, Bool, true, false, cond, not, List, [], ◌∷◌, length, get_or, set, position, unwrap_or, Option, Some, None, refl, sym, ap, ◌∙◌, subst, one-add, arith}
 use Rattle.std.specs.List.{position_or_len, insert, find}
 use Rattle.std.specs.Ordering.{is_lt}
 use Rattle.std.proofs.lemmas.Bool.Decides.{nat_tests}
@@ -22,8 +22,8 @@ insert_entry-place new [] = refl
 insert_entry-place new (e ∷ es) =
     let n = position_or_len (λ e. is_lt (path_cmp new.path e.path)) es in
     elim (is_lt (path_cmp new.path e.path)) as (λ v. cond v (new ∷ e ∷ es) (e ∷ insert_entry new es) ≡ insert (e ∷ es) (cond (not v) (1 + n) 0) new) [
-      true ↦ refl
-    | false ↦ rw one-add (ap (λ t. e ∷ t) (insert_entry-place new es))
+      | true ↦ refl
+      | false ↦ rw one-add (ap (λ t. e ∷ t) (insert_entry-place new es))
     ]
 
 -- what `position` answers is the first place
@@ -39,8 +39,8 @@ stands path d [] = λ h. absurd (omega arith)
 stands path d (e ∷ es) =
     let n = position_or_len (λ x. same_path path x.path) es in
     elim (same_path path e.path) as (λ v. cond (not v) (1 + n) 0 < length (e ∷ es) → Stands path d (e ∷ es) (cond (not v) (1 + n) 0) (cond v (Some e) (entry_at path es)) (λ bytes. cond v (record e { bytes = bytes } ∷ es) (e ∷ with_bytes_at path bytes es))) [
-      true ↦ λ h. (refl, λ bytes. refl)
-    | false ↦ λ h. let below = stands path d es (omega arith) in rw one-add (below.0, λ bytes. ap (λ t. e ∷ t) (below.1 bytes))
+      | true ↦ λ h. (refl, λ bytes. refl)
+      | false ↦ λ h. let below = stands path d es (omega arith) in rw one-add (below.0, λ bytes. ap (λ t. e ∷ t) (below.1 bytes))
     ]
 
 -- what stands at the place of a path, and what a change of its bytes is
@@ -49,7 +49,6 @@ entry_at-place path tree i d h =
     let at = position-is (λ e. same_path path e.path) tree i h in
     let here = stands path d tree (omega arith) in
     subst (λ j. (i < length tree) × (entry_at path tree ≡ Some (get_or tree j d)) × ((bytes : List ℕ) → with_bytes_at path bytes tree ≡ set tree j (record (get_or tree j d) { bytes = bytes }))) (sym at.0) (at.1, here.0, here.1)
-
 
 -- the first that passes is at the first place, or nowhere
 find-position : {X : Type 0} (p : X → Bool) (xs : List X) → position p xs ≡ None → find p xs ≡ None
@@ -71,5 +70,12 @@ kind_at-none path tree r h =
 -- the bytes at the place of a path
 pub bytes_in-place : (path : List (List ℕ)) (tree : List TreeEntry) (i : ℕ) (d : TreeEntry) → position (λ e. same_path path e.path) tree ≡ Some i → bytes_in (entry_at path tree) ≡ (get_or tree i d).bytes
 bytes_in-place path tree i d h = let here = entry_at-place path tree i d h in ap bytes_in here.1
+
+-- a change of the bytes at the place of a path
+pub with_bytes_at-place : (change : List ℕ → List ℕ) (path : List (List ℕ)) (tree : List TreeEntry) (i : ℕ) (d : TreeEntry) → position (λ e. same_path path e.path) tree ≡ Some i → set tree i (record (get_or tree i d) { bytes = change (get_or tree i d).bytes }) ≡ with_bytes_at path (change (bytes_in (entry_at path tree))) tree
+with_bytes_at-place change path tree i d h =
+    let here = entry_at-place path tree i d h in
+    ap (λ b. set tree i (record (get_or tree i d) { bytes = change b })) (sym (bytes_in-place path tree i d h))
+    ∙ sym (here.2 (change (bytes_in (entry_at path tree))))
 
 pub ruleset first_places = (unwrap_or-position)

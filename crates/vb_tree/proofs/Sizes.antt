@@ -1,5 +1,5 @@
 -- How a change of one file's bytes changes the pages.
-use Rattle.std.proofs.Common.{◌≡◌, ℕ, ◌+◌, ◌-◌, ◌<◌, ◌≤◌, min, max, Bool, true, false, cond, ◌==◌, List, [], ◌∷◌, ◌++◌, length, take, drop, replicate, get_or, set, position, Option, Some, None, refl, sym, ap, ◌∙◌, subst, arith, length-append, length-take, length-drop}
+use Rattle.std.proofs.Common.{◌≡◌, ℕ, ◌+◌, ◌-◌, ◌<◌, ◌≤◌, max, true, false, cond, ◌==◌, List, ◌++◌, length, take, drop, replicate, get_or, position, Some, refl, sym, ap, ◌∙◌, arith, length-append, length-take, length-drop}
 use Rattle.std.proofs.lemmas.List.{length-replicate}
 use Rattle.std.proofs.lemmas.List.Sums.{sum_by-set, sum_by_more_le}
 use Rattle.std.specs.List.{sum_by}
@@ -14,8 +14,8 @@ use Rattle.vb_tree.proofs.Lookups.{entry_at-place, bytes_in-place}
 pub length-written_over : (offset : ℕ) (bytes old : List ℕ) → length (written_over offset bytes old) ≡ new_length offset (length bytes) (length old)
 length-written_over offset bytes old =
     elim (length bytes == 0) as (λ v. length (cond v old (take offset old ++ replicate (offset - length old) 0 ++ bytes ++ drop (offset + length bytes) old)) ≡ cond v (length old) (max (length old) (offset + length bytes))) [
-      true ↦ refl
-    | false ↦ omega (arith, length-append {A = ℕ}, length-take {A = ℕ}, length-drop {A = ℕ}, length-replicate {A = ℕ})
+      | true ↦ refl
+      | false ↦ omega (arith, length-append {A = ℕ}, length-take {A = ℕ}, length-drop {A = ℕ}, length-replicate {A = ℕ})
     ]
 
 -- the pages after a file's bytes became others
@@ -45,6 +45,6 @@ pub refuse_length-write : (limits : Limits) (path : List (List ℕ)) (tree : Lis
 refuse_length-write limits path tree offset bytes len i d h e =
     let old = bytes_in (entry_at path tree) in
     let same : new_length offset (length bytes) (length old) ≡ len =
-        ap (λ b. new_length offset (length bytes) (length b)) (bytes_in-place path tree i d h) ∙ sym e in
+    ap (λ b. new_length offset (length bytes) (length b)) (bytes_in-place path tree i d h) ∙ sym e in
     refuse_length-changed limits path tree (written_over offset bytes old) _ i d h (length-written_over offset bytes old)
     ∙ ap (λ n. refuse_length limits (page_count tree) (pages_after tree (get_or tree i d) n) n) same

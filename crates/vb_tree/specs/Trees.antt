@@ -1,7 +1,8 @@
 -- Trees: their entries, what stands where, and how much they take.
-use Rattle.std.specs.Prelude.{ℕ, ◌+◌, ◌-◌, ◌/◌, ◌≤◌, ◌==◌, Bool, if◌then◌else◌, List, [], ◌∷◌, length, Option, Some, None}
+use Rattle.std.specs.Prelude.{◌≡◌, ℕ, ◌+◌, ◌-◌, ◌/◌, ◌≤◌, ◌==◌, Bool, false, if◌then◌else◌, List, [], ◌∷◌, length, take, Option, Some, None}
 use Rattle.std.specs.Option.{option_map}
 use Rattle.std.specs.Ordering.{is_lt}
+use Rattle.std.specs.declared.cmp.Ordering.TheVariants.{Less}
 use Rattle.std.specs.List.{find, sum_by}
 use Rattle.vb_tree.specs.declared.tree.Kind.{Kind}
 use Rattle.vb_tree.specs.declared.tree.Kind.TheVariants.{Folder}
@@ -73,3 +74,33 @@ pub record IsWithin (limits : Limits) (tree : List TreeEntry) : Type 0 where
   pub limits_allowed : AreInLimits limits
   pub nodes_within : node_count tree ≤ limits.nodes
   pub pages_within : page_count tree ≤ limits.pages
+
+-- each of these entries comes after a path
+abbrev pub AllAfter : List (List ℕ) → List TreeEntry → Type 0
+AllAfter path [] = Unit {0}
+AllAfter path (e ∷ es) = (path_cmp path e.path ≡ Less) × AllAfter path es
+
+-- the entries stand strictly in path order
+abbrev pub AreInOrder : List TreeEntry → Type 0
+AreInOrder [] = Unit {0}
+AreInOrder (e ∷ es) = AllAfter e.path es × AreInOrder es
+
+-- the path of the folder in which a path lies
+abbrev pub parent_of : List (List ℕ) → List (List ℕ)
+parent_of path = take (length path - 1) path
+
+-- an entry belongs into a tree: it isn't the root, its parent is a folder there, and a folder has no bytes
+pub record BelongsIn (tree : List TreeEntry) (e : TreeEntry) : Type 0 where
+  pub below_root : is_root e.path ≡ false
+  pub parent_there : kind_at (parent_of e.path) tree ≡ Some Folder
+  pub folder_empty : e.kind ≡ Folder → e.bytes ≡ []
+
+-- each of these entries belongs into a tree
+abbrev pub AllBelongIn : List TreeEntry → List TreeEntry → Type 0
+AllBelongIn tree [] = Unit {0}
+AllBelongIn tree (e ∷ es) = BelongsIn tree e × AllBelongIn tree es
+
+-- the entries are those of a tree: strictly in path order, and each belongs there
+pub record IsTree (tree : List TreeEntry) : Type 0 where
+  pub in_order : AreInOrder tree
+  pub all_belong : AllBelongIn tree tree

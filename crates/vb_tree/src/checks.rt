@@ -118,9 +118,9 @@ fn check_resize(
     requires pages_in { page_count entries.now < 2 ^ 32 }
     ensures { (d : TreeEntry)
         → refuse_length limits
-            (page_count entries.now)
-            (pages_after entries.now (slice_index_or entries.now place d) new)
-            new
+        (page_count entries.now)
+        (pages_after entries.now (slice_index_or entries.now place d) new)
+        new
         ≡ result_err result }
 {
     let before = pages_in(entries);

@@ -40,7 +40,9 @@ pub(crate) fn kind_of(entries: &[TreeEntry], path: &[Bytes]) -> Option<Kind>
 fn later_place(entries: &[TreeEntry], path: &Path) -> Option<usize>
     ensures { result ≡ position (λ e. is_lt (path_cmp path.now e.path)) entries.now }
 {
-    entries.iter().position(|entry| path.cmp(&entry.path).is_lt())
+    entries
+        .iter()
+        .position(|entry| path.cmp(&entry.path).is_lt())
 }
 
 /// The place at which a new entry at a path has to stand.
@@ -76,5 +78,8 @@ pub(crate) fn pages_in(entries: &[TreeEntry]) -> u64
     requires { page_count entries.now < 2 ^ 32 }
     ensures { result ≡ page_count entries.now }
 {
-    entries.iter().map(|entry| pages_of(entry.bytes.len() as u64)).sum()
+    entries
+        .iter()
+        .map(|entry| pages_of(entry.bytes.len() as u64))
+        .sum()
 }

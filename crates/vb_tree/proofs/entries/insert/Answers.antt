@@ -11,7 +11,7 @@ returns-clause-ok c =
     let items = c.args.entries.now.items in
     let is_later : TreeEntry → Bool = λ e. is_lt (path_cmp c.args.entry.path e.path) in
     let place : c.place_for-place.result ≡ position_or_len is_later items =
-        c.place_for-place.ensures.first ∙ ap (position_or_len is_later) c.deref.ensures.value in
+    c.place_for-place.ensures.first ∙ ap (position_or_len is_later) c.deref.ensures.value in
     c.in_ok-insert.ensures.items
     ∙ ap (λ n. insert items n c.args.entry) place
     ∙ sym (insert_entry-place c.args.entry items)

@@ -1,7 +1,7 @@
 use Rattle.std.proofs.Common.{rules}
 use Rattle.vb_core.specs.Core.{after_call}
 use Rattle.vb_core.proofs.Noted.{sound-is}
-use Rattle.vb_core.proofs.Steps.{sound-call}
+use Rattle.vb_core.proofs.Transitions.{sound-call}
 use Rattle.vb_core.proofs.folder.Folder.call.Goals as goal
 
 pub returns-in-Ok-clause-sound : goal.returns-in-Ok-clause-sound

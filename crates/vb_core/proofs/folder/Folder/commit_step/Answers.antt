@@ -1,7 +1,7 @@
 use Rattle.std.proofs.Common.{rules}
 use Rattle.vb_core.specs.Core.{after_commit_step, commit_answer}
 use Rattle.vb_core.proofs.Noted.{sound-is}
-use Rattle.vb_core.proofs.Steps.{sound-commit_step}
+use Rattle.vb_core.proofs.Transitions.{sound-commit_step}
 use Rattle.vb_core.proofs.folder.Folder.commit_step.Goals as goal
 
 pub returns-in_ok-reserve-in-Written-clause-sound : goal.returns-in_ok-reserve-in-Written-clause-sound

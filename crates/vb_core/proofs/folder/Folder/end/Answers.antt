@@ -1,7 +1,7 @@
 use Rattle.std.proofs.Common.{rules}
 use Rattle.vb_core.specs.Core.{after_end}
 use Rattle.vb_core.proofs.Noted.{sound-is}
-use Rattle.vb_core.proofs.Steps.{sound-end}
+use Rattle.vb_core.proofs.Transitions.{sound-end}
 use Rattle.vb_core.proofs.folder.Folder.end.Goals as goal
 
 pub returns-clause-sound : goal.returns-clause-sound
