@@ -2,6 +2,7 @@
 #![tactic(auto)]
 
 mod operation;
+mod parse;
 mod path;
 mod plain;
 mod tree;

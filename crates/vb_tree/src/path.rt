@@ -1,7 +1,8 @@
 // Paths: what a text of a path must be, and its parts.
-ghost use Rattle.std.specs.Prelude.{◌≡◌, IfOk};
-ghost use Rattle.vb_tree.specs.Paths.{IsDueFrom, text_of_path};
+ghost use Rattle.std.specs.Prelude.{◌≡◌, IfOk, Ok, None};
+ghost use Rattle.vb_tree.specs.Paths.{IsDueFrom, path_of, text_of_path, fault_of};
 
+use crate::parse::{fault_in, parts_past_slash};
 use crate::{Bytes, Names};
 use std::alloc::{AllocError, Global};
 use std::marker::Model;
@@ -45,11 +46,11 @@ impl Model for Path {
 
     ghost Value = { List (List ℕ) };
 
-    ghost use Rattle.vb_tree.specs.Paths.{text_of_path};
+    ghost use Rattle.vb_tree.specs.Paths.{text_of_path, IsPath};
 
     ghost view = { λ a. a.parts };
 
-    ghost invariant = { λ a. a.text ≡ text_of_path a.parts };
+    ghost invariant = { λ a. (a.text ≡ text_of_path a.parts) × IsPath a.parts };
 }
 
 impl Path {
@@ -57,12 +58,19 @@ impl Path {
     pub fn parse(alloc: Global, text: &[u8]) -> Result<Path, PathError>
         ensures { IsDueFrom text.now result }
     {
-        Err(PathError::Memory)
+        if let Some(fault) = fault_in(text) {
+            return Err(fault);
+        }
+        match read(alloc, text) {
+            Ok(path) => Ok(path),
+            Err(_) => Err(PathError::Memory),
+        }
     }
 
     /// The path as a text: a slash before each part, and a lone slash for the root.
     pub fn text(&self) -> &[u8]
-        ensures { result.now ≡ text_of_path self.now }
+        ensures spelled { result.now ≡ text_of_path self.now }
+        ensures valid { path_of result.now ≡ Ok self.now }
     {
         let _ = &self.parts;
         self.text.slice()
@@ -79,7 +87,34 @@ impl Path {
     pub fn copy(&self, alloc: Global) -> Result<Path, AllocError>
         ensures { IfOk result (λ path. path ≡ self.now) }
     {
-        let _ = &self.parts;
-        Err(AllocError)
+        let parts = copy_names(alloc, self.parts.slice())?;
+        Ok(Path {
+            text: Bytes::of(alloc, self.text.slice())?,
+            parts,
+        })
     }
+}
+
+/// The path of a text that is one.
+#[tactic(auto, using(crate::proofs::ReadText::read_paths))]
+fn read(alloc: Global, text: &[u8]) -> Result<Path, AllocError>
+    requires { fault_of text.now ≡ None }
+    ensures { IfOk result (λ path. path_of text.now ≡ Ok path) }
+{
+    let parts = parts_past_slash(alloc, &text[1..])?;
+    Ok(Path {
+        text: Bytes::of(alloc, text)?,
+        parts,
+    })
+}
+
+/// Equal names.
+pub(crate) fn copy_names(alloc: Global, names: &[Bytes]) -> Result<Names, AllocError>
+    ensures { IfOk result (λ copied. copied ≡ names.now) }
+{
+    let mut copied = Names::new(alloc);
+    for name in names {
+        copied.add(Bytes::of(alloc, name.slice())?)?;
+    }
+    Ok(copied)
 }
