@@ -1,7 +1,7 @@
 // One generic list, which stands behind every small list type of the repository.
 #![tactic(auto)]
 
-ghost use Rattle.std.specs.Prelude.{◌≡◌, ◌+◌, ◌<◌, List, [], ◌∷◌, ◌++◌, length, IsTrue, ◌↔◌, IfOk, IfErr, OnOk, OnErr, IsNone, IfSome, IfNone, slice_get, Some};
+ghost use Rattle.std.specs.Prelude.{◌≡◌, ◌+◌, ◌-◌, ◌<◌, ◌≤◌, List, [], ◌∷◌, ◌++◌, length, take, drop, replicate, IsTrue, ◌↔◌, IfOk, IfErr, OnOk, OnErr, IsNone, IfSome, IfNone, slice_get, Some};
 ghost use Rattle.std.specs.Cmp.Lexicographic.{pointwise, slice_cmp, slice_partial_cmp, lists_equiv, lists_agrees, lists_total, lists_ties, lists_po, lists_per};
 
 use std::alloc::{AllocError, Global};
@@ -119,6 +119,24 @@ impl<T: Copy> Items<T> {
         ensures err { OnErr result (self.new ≡ self.old) }
     {
         self.items.extend_from_slice(items)
+    }
+
+    /// Cuts the list to a length, or fills it up to that length with an item.
+    pub fn resize(&mut self, len: usize, item: T) -> Result<(), AllocError>
+        ensures ok { OnOk result
+            (self.new ≡ take len self.old ++ replicate (len - length self.old) item) }
+        ensures err { OnErr result (self.new ≡ self.old) }
+    {
+        self.items.resize(len, item)
+    }
+
+    /// Puts these items in place of those from `at` on.
+    pub fn overwrite(&mut self, at: usize, items: &[T])
+        requires { at + length items.now ≤ length self.old }
+        ensures { self.new
+            ≡ take at self.old ++ items.now ++ drop (at + length items.now) self.old }
+    {
+        self.items[at..at + items.len()].copy_from_slice(items);
     }
 }
 

@@ -1,5 +1,5 @@
 -- The pieces between the slashes of a text.
-use Rattle.std.proofs.Common.{◌≡◌, ℕ, zero, suc, ◌+◌, ◌<◌, ◌≤◌, Bool, true, false, cond, not, ◌==◌, eqb, List, [], ◌∷◌, ◌++◌, length, take, drop, position, count_by, MatchOption, Option, Some, None, ◌⊎◌, inl, inr, refl, sym, ap, ◌∙◌, subst, one-add, add-one, arith}
+use Rattle.std.proofs.Common.{◌≡◌, ℕ, suc, ◌+◌, ◌<◌, Bool, true, false, cond, not, ◌==◌, List, [], ◌∷◌, length, take, drop, position, count_by, MatchOption, ◌⊎◌, inl, inr, refl, sym, ap, ◌∙◌, subst, one-add, add-one, arith}
 use Rattle.std.specs.List.{position_or_len, flat_map}
 use Rattle.std.proofs.lemmas.Bool.Decides.{nat_tests, eqb_tells}
 use Rattle.std.proofs.lemmas.List.Sums.{sum_by-cons, count_by-le-length}
@@ -15,10 +15,10 @@ pieces_at (b ∷ bs) =
     let n = position_or_len is_slash bs in
     let P : ℕ → List (List ℕ) → Type 0 = λ k ps. ((length (b ∷ bs) ≡ k) × (ps ≡ (b ∷ bs) ∷ [])) ⊎ ((k < length (b ∷ bs)) × (ps ≡ take k (b ∷ bs) ∷ pieces_of (drop (suc k) (b ∷ bs)))) in
     elim (b == 47) as (λ v. P (cond (not v) (1 + n) 0) (cond v ([] ∷ pieces_of bs) (with_byte b (pieces_of bs)))) [
-      true ↦ inr (omega arith, refl)
-    | false ↦ subst (λ k. P k (with_byte b (pieces_of bs))) (sym (one-add n)) (elim (pieces_at bs) [
-        inl w ↦ inl (omega arith, ap (with_byte b) w.1)
-      | inr w ↦ inr (omega arith, ap (with_byte b) w.1)
+      | true ↦ inr (omega arith, refl)
+      | false ↦ subst (λ k. P k (with_byte b (pieces_of bs))) (sym (one-add n)) (elim (pieces_at bs) [
+        | inl w ↦ inl (omega arith, ap (with_byte b) w.1)
+        | inr w ↦ inr (omega arith, ap (with_byte b) w.1)
       ])
     ]
 
@@ -26,8 +26,8 @@ pieces_at (b ∷ bs) =
 pub pieces-position : (text : List ℕ) → MatchOption (position (λ b. b == 47) text) (pieces_of text ≡ text ∷ []) (λ i. (i < length text) × (pieces_of text ≡ take i text ∷ pieces_of (drop (i + 1) text)))
 pieces-position text =
     elim (pieces_at text) [
-      inl w ↦ grind (arith, nat_tests, w.0, w.1)
-    | inr w ↦ grind (arith, nat_tests, w.0, w.1, add-one)
+      | inl w ↦ grind (arith, nat_tests, w.0, w.1)
+      | inr w ↦ grind (arith, nat_tests, w.0, w.1, add-one)
     ]
 
 -- there is at least one piece
@@ -36,8 +36,8 @@ pieces_of-some [] = omega arith
 pieces_of-some (b ∷ bs) =
     let P : List (List ℕ) → Type 0 = λ ps. 0 < length ps in
     elim (b == 47) as (λ v. P (cond v ([] ∷ pieces_of bs) (with_byte b (pieces_of bs)))) [
-      true ↦ omega arith
-    | false ↦ elim (pieces_of bs) as (λ ps. P (with_byte b ps)) [ [] ↦ omega arith | p ∷ ps ↦ omega arith ]
+      | true ↦ omega arith
+      | false ↦ elim (pieces_of bs) as (λ ps. P (with_byte b ps)) [ [] ↦ omega arith | p ∷ ps ↦ omega arith ]
     ]
 
 length-with_byte : (b : ℕ) (ps : List (List ℕ)) → 0 < length ps → length (with_byte b ps) ≡ length ps
@@ -50,8 +50,8 @@ length-pieces_of [] = refl
 length-pieces_of (b ∷ bs) =
     rw sum_by-cons
     (elim (b == 47) as (λ v. length (cond v ([] ∷ pieces_of bs) (with_byte b (pieces_of bs))) ≡ cond v 1 0 + count_by (λ c. c == 47) bs + 1) [
-      true ↦ omega (arith, length-pieces_of bs)
-    | false ↦ omega (arith, length-pieces_of bs, length-with_byte b (pieces_of bs) (pieces_of-some bs))
+      | true ↦ omega (arith, length-pieces_of bs)
+      | false ↦ omega (arith, length-pieces_of bs, length-with_byte b (pieces_of bs) (pieces_of-some bs))
     ])
 
 joined-with_byte : (b : ℕ) (ps : List (List ℕ)) (bs : List ℕ) → 0 < length ps → flat_map (λ p. 47 ∷ p) ps ≡ 47 ∷ bs → flat_map (λ p. 47 ∷ p) (with_byte b ps) ≡ 47 ∷ (b ∷ bs)
@@ -63,8 +63,8 @@ pub flat_map-pieces_of : (text : List ℕ) → flat_map (λ p. 47 ∷ p) (pieces
 flat_map-pieces_of [] = refl
 flat_map-pieces_of (b ∷ bs) =
     elim (eqb_tells b 47) [
-      inl w ↦ rw w.0 (ap (λ cs. 47 ∷ cs) (flat_map-pieces_of bs ∙ ap (λ c. c ∷ bs) (sym w.1)))
-    | inr w ↦ rw w.0 (joined-with_byte b (pieces_of bs) bs (pieces_of-some bs) (flat_map-pieces_of bs))
+      | inl w ↦ rw w.0 (ap (λ cs. 47 ∷ cs) (flat_map-pieces_of bs ∙ ap (λ c. c ∷ bs) (sym w.1)))
+      | inr w ↦ rw w.0 (joined-with_byte b (pieces_of bs) bs (pieces_of-some bs) (flat_map-pieces_of bs))
     ]
 
 -- the text of the pieces is the text behind a slash

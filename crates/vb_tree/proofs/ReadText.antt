@@ -1,11 +1,11 @@
 -- What a text that reads as a path is: the text of its parts.
-use Rattle.std.proofs.Common.{◌≡◌, ℕ, ◌+◌, ◌<◌, ◌≤◌, Bool, true, false, not, ◌==◌, eqb, nat_lt, List, [], ◌∷◌, length, take, drop, get_or, Option, Some, None, Result, Ok, Err, refl, sym, ap, ◌∙◌, subst, inl, inr, if◌then◌else◌, arith}
+use Rattle.std.proofs.Common.{◌≡◌, ℕ, Bool, true, false, not, ◌==◌, List, [], ◌∷◌, length, drop, Option, None, Ok, refl, sym, ap, ◌∙◌, subst, inl, inr, if◌then◌else◌, arith}
 use Rattle.std.proofs.lemmas.Bool.{false≢true}
 use Rattle.std.specs.Str.{IsUtf8}
 use Rattle.std.proofs.lemmas.Str.{utf8_valid_len-IsUtf8}
 use Rattle.std.proofs.lemmas.Bool.Decides.{nat_tests, eqb_tells}
 use Rattle.vb_tree.specs.declared.path.PathError.{PathError}
-use Rattle.vb_tree.specs.Paths.{pieces_of, text_of_path, fault_if, fault_at, first_fault, bad_utf8_in, zero_byte_in, fault_after_slash, fault_of, parts_after_slash, parts_unless, path_of, IsPath}
+use Rattle.vb_tree.specs.Paths.{pieces_of, text_of_path, fault_if, bad_utf8_in, fault_of, parts_after_slash, parts_unless, path_of, IsPath}
 use Rattle.vb_tree.proofs.Pieces.{text_of_path-pieces_of}
 
 -- no fault means that no test held
@@ -19,8 +19,8 @@ starts b bs h =
     let first = fault_if-none (length (b ∷ bs) == 0) _ _ h in
     let second = fault_if-none (not (b == 47)) _ _ first.1 in
     elim (eqb_tells b 47) [
-      inl w ↦ w.1
-    | inr w ↦ absurd (false≢true (sym second.0 ∙ ap not w.0))
+      | inl w ↦ w.1
+      | inr w ↦ absurd (false≢true (sym second.0 ∙ ap not w.0))
     ]
 
 not_empty : (b : ℕ) (bs : List ℕ) → (length (b ∷ bs) == 0) ≡ false

@@ -1,8 +1,9 @@
 -- Trees: their entries, what stands where, and how much they take.
-use Rattle.std.specs.Prelude.{ℕ, ◌+◌, ◌/◌, ◌≤◌, if◌then◌else◌, List, [], ◌∷◌, length, Option, Some, None}
+use Rattle.std.specs.Prelude.{◌≡◌, ℕ, ◌+◌, ◌-◌, ◌/◌, ◌≤◌, ◌==◌, Bool, false, if◌then◌else◌, List, [], ◌∷◌, length, take, Option, Some, None}
 use Rattle.std.specs.Option.{option_map}
 use Rattle.std.specs.Ordering.{is_lt}
-use Rattle.std.specs.List.{sum_by}
+use Rattle.std.specs.declared.cmp.Ordering.TheVariants.{Less}
+use Rattle.std.specs.List.{find, sum_by}
 use Rattle.vb_tree.specs.declared.tree.Kind.{Kind}
 use Rattle.vb_tree.specs.declared.tree.Kind.TheVariants.{Folder}
 use Rattle.vb_tree.specs.declared.tree.Limits.{Limits}
@@ -16,13 +17,15 @@ pub record LimitedTree : Type 0 where
 
 -- the first entry at a path
 abbrev pub entry_at : List (List ℕ) → List TreeEntry → Option TreeEntry
-entry_at path [] = None
-entry_at path (e ∷ es) = if same_path path e.path then Some e else entry_at path es
+entry_at path tree = find (λ e. same_path path e.path) tree
+
+-- whether a path is the root
+abbrev pub is_root : List (List ℕ) → Bool
+is_root path = length path == 0
 
 -- what stands at a path: the root is a folder, and every other place has what its entry is
 abbrev pub kind_at : List (List ℕ) → List TreeEntry → Option Kind
-kind_at [] tree = Some Folder
-kind_at (part ∷ parts) tree = option_map (λ e. e.kind) (entry_at (part ∷ parts) tree)
+kind_at path tree = if is_root path then Some Folder else option_map (λ e. e.kind) (entry_at path tree)
 
 -- the bytes at a path, none where nothing stands
 abbrev pub bytes_in : Option TreeEntry → List ℕ
@@ -51,6 +54,10 @@ pages_of_length len = data_pages_of len + (data_pages_of len + 112) / 113
 abbrev pub page_count : List TreeEntry → ℕ
 page_count tree = sum_by (λ e. pages_of_length (length e.bytes)) tree
 
+-- how many pages all files take once one of them has another length
+abbrev pub pages_after : List TreeEntry → TreeEntry → ℕ → ℕ
+pages_after tree changed len = page_count tree - pages_of_length (length changed.bytes) + pages_of_length len
+
 -- how many nodes a tree has, the root among them
 abbrev pub node_count : List TreeEntry → ℕ
 node_count tree = length tree + 1
@@ -67,3 +74,33 @@ pub record IsWithin (limits : Limits) (tree : List TreeEntry) : Type 0 where
   pub limits_allowed : AreInLimits limits
   pub nodes_within : node_count tree ≤ limits.nodes
   pub pages_within : page_count tree ≤ limits.pages
+
+-- each of these entries comes after a path
+abbrev pub AllAfter : List (List ℕ) → List TreeEntry → Type 0
+AllAfter path [] = Unit {0}
+AllAfter path (e ∷ es) = (path_cmp path e.path ≡ Less) × AllAfter path es
+
+-- the entries stand strictly in path order
+abbrev pub AreInOrder : List TreeEntry → Type 0
+AreInOrder [] = Unit {0}
+AreInOrder (e ∷ es) = AllAfter e.path es × AreInOrder es
+
+-- the path of the folder in which a path lies
+abbrev pub parent_of : List (List ℕ) → List (List ℕ)
+parent_of path = take (length path - 1) path
+
+-- an entry belongs into a tree: it isn't the root, its parent is a folder there, and a folder has no bytes
+pub record BelongsIn (tree : List TreeEntry) (e : TreeEntry) : Type 0 where
+  pub below_root : is_root e.path ≡ false
+  pub parent_there : kind_at (parent_of e.path) tree ≡ Some Folder
+  pub folder_empty : e.kind ≡ Folder → e.bytes ≡ []
+
+-- each of these entries belongs into a tree
+abbrev pub AllBelongIn : List TreeEntry → List TreeEntry → Type 0
+AllBelongIn tree [] = Unit {0}
+AllBelongIn tree (e ∷ es) = BelongsIn tree e × AllBelongIn tree es
+
+-- the entries are those of a tree: strictly in path order, and each belongs there
+pub record IsTree (tree : List TreeEntry) : Type 0 where
+  pub in_order : AreInOrder tree
+  pub all_belong : AllBelongIn tree tree

@@ -5,7 +5,7 @@ use crate::{Bytes, Path};
 use std::alloc::{AllocError, Global};
 
 /// A change that a writer asks for.
-#[derive(Debug, Drop)]
+#[derive(Debug, PartialEq, Eq, Drop)]
 pub enum Op {
     /// Makes an empty file.
     Create {
@@ -19,11 +19,45 @@ pub enum Op {
     },
 }
 
+impl Op {
+    /// An equal operation.
+    pub fn copy(&self, alloc: Global) -> Result<Op, AllocError>
+        ensures { IfOk result (λ copied. copied ≡ self.now) }
+    {
+        match self {
+            Op::Create { path } => Ok(Op::Create {
+                path: path.copy(alloc)?,
+            }),
+            Op::Write {
+                path,
+                offset,
+                bytes,
+            } => Ok(Op::Write {
+                path: path.copy(alloc)?,
+                offset: *offset,
+                bytes: Bytes::of(alloc, bytes.slice())?,
+            }),
+        }
+    }
+}
+
 /// What a tree answers to an operation.
-#[derive(Debug, Drop)]
+#[derive(Debug, PartialEq, Eq, Drop)]
 pub enum Reply {
     Done,
     Refused(Refusal),
+}
+
+impl Reply {
+    /// An equal reply.
+    pub fn copy(&self, _alloc: Global) -> Result<Reply, AllocError>
+        ensures { IfOk result (λ copied. copied ≡ self.now) }
+    {
+        match self {
+            Reply::Done => Ok(Reply::Done),
+            Reply::Refused(reason) => Ok(Reply::Refused(*reason)),
+        }
+    }
 }
 
 /// Why an operation was refused. The numbers are what would be after the operation, and the limit.

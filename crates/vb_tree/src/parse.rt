@@ -7,7 +7,9 @@ use std::alloc::{AllocError, Global};
 use std::str;
 
 const MOST_BYTES: usize = 1024;
+
 const MOST_PARTS: usize = 32;
+
 const MOST_PART_BYTES: usize = 255;
 
 /// The place of the first of these bytes.
@@ -23,7 +25,7 @@ fn slash_in(text: &[u8]) -> Option<usize>
     ensures { MatchOption result
         (pieces_of text.now ≡ text.now ∷ [])
         (λ i. (i < length text.now)
-            × (pieces_of text.now ≡ take i text.now ∷ pieces_of (drop (i + 1) text.now))) }
+        × (pieces_of text.now ≡ take i text.now ∷ pieces_of (drop (i + 1) text.now))) }
 {
     place_of(text, b'/')
 }

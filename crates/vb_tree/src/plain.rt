@@ -1,8 +1,9 @@
 // The plain tree: a list of entries in path order, on which each operation is played as its meaning says.
 ghost use Rattle.std.specs.Prelude.{◌≡◌, ◌<◌, [], length, IfOk, OnOk, OnErr, slice_get, Some};
-ghost use Rattle.vb_tree.specs.Trees.{LimitedTree, AreInLimits};
+ghost use Rattle.vb_tree.specs.Trees.{LimitedTree, AreInLimits, IsTree, IsWithin};
 ghost use Rattle.vb_tree.specs.Operations.{IsInRange, reply_of, tree_after};
 
+use crate::play::play;
 use crate::{Kind, Limits, Op, Path, Reply, TreeEntry};
 use std::alloc::{AllocError, Global};
 use std::marker::Model;
@@ -15,13 +16,13 @@ pub struct Plain {
 }
 
 impl Model for Plain {
-    ghost use Rattle.vb_tree.specs.Trees.{LimitedTree, IsWithin};
+    ghost use Rattle.vb_tree.specs.Trees.{LimitedTree, IsTree, IsWithin};
 
     ghost Value = { LimitedTree };
 
     ghost view = { λ a. record { limits = a.limits; tree = a.entries.items } };
 
-    ghost invariant = { λ a. IsWithin a.limits a.entries.items };
+    ghost invariant = { λ a. IsWithin a.limits a.entries.items × IsTree a.entries.items };
 }
 
 impl Plain {
@@ -37,28 +38,36 @@ impl Plain {
     }
 
     /// Plays an operation, and answers its reply. Where the reply isn't Done, the tree stays.
+    #[tactic(auto, using(crate::proofs::Allowed::keeps))]
     pub fn perform(&mut self, alloc: Global, op: &Op) -> Result<Reply, AllocError>
         requires { IsInRange op.now }
         ensures reply { IfOk result (λ reply. reply ≡ reply_of self.old.limits self.old.tree op.now) }
         ensures tree { OnOk result (self.new ≡ record self.old { tree = tree_after self.old.limits self.old.tree op.now }) }
         ensures err { OnErr result (self.new ≡ self.old) }
     {
-        let _ = &self.limits;
-        Err(AllocError)
+        play(self.limits, &mut self.entries, alloc, op)
     }
 
     /// An equal tree under the same limits.
     pub fn copy(&self, alloc: Global) -> Result<Plain, AllocError>
         ensures { IfOk result (λ copied. copied ≡ self.now) }
     {
-        let _ = &self.limits;
-        Err(AllocError)
+        let mut entries = Vec::new(alloc);
+        for entry in &self.entries {
+            entries.push(entry.copy(alloc)?)?;
+        }
+        Ok(Plain {
+            limits: self.limits,
+            entries,
+        })
     }
 
     /// How many entries there are.
     pub fn len(&self) -> usize
         ensures len { result ≡ length self.now.tree }
         ensures few { result < 65536 }
+        ensures tree { IsTree self.now.tree }
+        ensures within { IsWithin self.now.limits self.now.tree }
     {
         self.entries.len()
     }

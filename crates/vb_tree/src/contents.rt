@@ -1,0 +1,51 @@
+// What a write makes of a file's bytes.
+ghost use Rattle.std.specs.Prelude.{◌≡◌, ◌+◌, ◌-◌, ◌^◌, ◌<◌, ◌++◌, length, replicate, vec_len, slice_index_or, slice_set, OnOk, OnErr};
+ghost use Rattle.vb_tree.specs.declared.tree.TreeEntry.{TreeEntry};
+ghost use Rattle.vb_tree.specs.Operations.{written_over};
+
+use crate::{Bytes, TreeEntry};
+use std::alloc::AllocError;
+
+/// Fills a file's bytes up to a length with zeros.
+#[tactic(auto, using(crate::proofs::Filled::fills))]
+fn fill_up(bytes: &mut Bytes, len: usize) -> Result<(), AllocError>
+    ensures ok { OnOk result (bytes.new ≡ bytes.old ++ replicate (len - length bytes.old) 0) }
+    ensures err { OnErr result (bytes.new ≡ bytes.old) }
+{
+    if len <= bytes.len() {
+        return Ok(());
+    }
+    bytes.resize(len, 0)
+}
+
+/// Writes over a file's bytes from an offset on.
+#[tactic(auto, using(crate::proofs::Filled::overwrites))]
+fn write_over(bytes: &mut Bytes, offset: u64, written: &[u8]) -> Result<(), AllocError>
+    requires { offset + length written.now < 2 ^ 64 }
+    ensures ok { OnOk result (bytes.new ≡ written_over offset written.now bytes.old) }
+    ensures err { OnErr result (bytes.new ≡ bytes.old) }
+{
+    if written.is_empty() {
+        return Ok(());
+    }
+    let start = offset as usize;
+    fill_up(bytes, start + written.len())?;
+    bytes.overwrite(start, written);
+    Ok(())
+}
+
+/// Writes over the bytes of the entry at a place.
+pub(crate) fn write_at(
+    entries: &mut Vec<TreeEntry>,
+    place: usize,
+    offset: u64,
+    written: &[u8],
+) -> Result<(), AllocError>
+    requires place_in { place < vec_len entries.old }
+    requires end_in { offset + length written.now < 2 ^ 64 }
+    ensures ok { (d : TreeEntry) → OnOk result (entries.new.items ≡ slice_set entries.old.items place (record (slice_index_or entries.old.items place d) { bytes = written_over offset written.now (slice_index_or entries.old.items place d).bytes })) }
+    ensures err { OnErr result (entries.new.items ≡ entries.old.items) }
+{
+    let entry = &mut entries[place];
+    write_over(&mut entry.bytes, offset, written)
+}
