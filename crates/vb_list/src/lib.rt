@@ -184,3 +184,33 @@ impl<T: Ord> Ord for Items<T> {
         self.items.cmp(&other.items)
     }
 }
+
+#[cfg(test)]
+mod tests {
+    use super::*;
+    use std::test::Fail;
+
+    #[test]
+    fn grows_and_shrinks(rt: HostRuntime) -> Result<(), Fail> {
+        let mut list = Items::of(rt.alloc(), &[1u8, 2])?;
+        list.add(3)?;
+        assert_eq!(rt; list.push(4), Ok(()));
+        list.extend(&[5, 6])?;
+        list.overwrite(1, &[7, 8]);
+        assert_eq!(rt; list.slice(), [1, 7, 8, 4, 5, 6].as_slice());
+        assert_eq!(rt; list.pop(), Some(6));
+        list.truncate(2);
+        list.resize(4, 9)?;
+        assert_eq!(rt; list.len(), 4);
+        assert_eq!(rt; *list.get(3), 9);
+        assert!(rt; list < Items::of(rt.alloc(), &[2])?);
+        assert!(rt; list == Items::from_vec(list_of(rt.alloc())?));
+        assert_eq!(rt; list.into_vec().len(), 4);
+        assert!(rt; Items::<u8>::new(rt.alloc()).is_empty());
+        Ok(())
+    }
+
+    fn list_of(alloc: Global) -> Result<Vec<u8>, AllocError> {
+        vec![in alloc; 1, 7, 9, 9]
+    }
+}
