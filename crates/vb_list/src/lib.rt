@@ -204,13 +204,9 @@ mod tests {
         assert_eq!(rt; list.len(), 4);
         assert_eq!(rt; *list.get(3), 9);
         assert!(rt; list < Items::of(rt.alloc(), &[2])?);
-        assert!(rt; list == Items::from_vec(list_of(rt.alloc())?));
+        assert!(rt; list == Items::from_vec(vec![in rt.alloc(); 1, 7, 9, 9]?));
         assert_eq!(rt; list.into_vec().len(), 4);
         assert!(rt; Items::<u8>::new(rt.alloc()).is_empty());
         Ok(())
-    }
-
-    fn list_of(alloc: Global) -> Result<Vec<u8>, AllocError> {
-        vec![in alloc; 1, 7, 9, 9]
     }
 }
