@@ -1,2 +1,5 @@
 pub mod Fronts
+pub mod Outputs
 pub mod QuietSteps
+pub mod ScriptsRead
+pub mod Tellings

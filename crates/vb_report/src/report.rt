@@ -66,7 +66,7 @@ impl Report {
     /// Adds the lines of a history. Where memory runs out, it has the lines of some front of it.
     pub fn history(&mut self, entries: &[Entry]) -> Result<(), AllocError>
         ensures ok { OnOk result (self.new ≡ self.old ++ history_text entries.now) }
-        ensures err { OnErr result ((n : ℕ) × (self.new ≡ self.old ++ history_text (take n entries.now))) }
+        ensures front { (n : ℕ) × (self.new ≡ self.old ++ history_text (take n entries.now)) }
     {
         for entry in entries {
             self.entry(entry)?;

@@ -1,0 +1,189 @@
+// The top call: words and a script in, lines and a status out.
+ghost use Rattle.std.specs.Prelude.{◌≡◌, ◌≢◌, ◌++◌, ◌<◌, ◌≤◌, ◌⊎◌, ℕ, List, [], false, true, ◌↔◌, Some, Err, length, take, codes};
+ghost use Rattle.vb_hist.specs.Quiet.{AreInRange, line_count, is_unfrozen};
+ghost use Rattle.vb_report.specs.Text.{epoch_line};
+ghost use Rattle.vb_cause.specs.Faults.{HasRisen};
+ghost use Rattle.vb_stream.specs.Streams.{TakesAtMost, WritesWhole};
+ghost use Rattle.vb_stream.specs.declared.sink.SinkError.{SinkError};
+ghost use Rattle.vb_program.specs.Playing.{IsQuiet};
+ghost use Rattle.vb_program.specs.declared.ending.Ending.{Ending};
+ghost use Rattle.vb_program.specs.Run.{are_words, most_read, Reports, TellsHistory, history_of_run, IsDue, IsWritten, error_line, status_of, status_after_fault, status_after_shortage};
+
+use crate::ending::Ending;
+use crate::quiet::play_scripts;
+use std::alloc::Global;
+use vb_core::Folder;
+use vb_hist::Scripts;
+use vb_report::Report;
+use vb_script::{ScriptError, read_script};
+use vb_stream::{ReadError, Sink, SinkError, Source, read_front, write_whole};
+use vb_tree::{Bytes, Limits};
+
+/// How a run ended, as the status of its process.
+#[derive(Clone, Copy, Debug, PartialEq, Eq)]
+pub struct Outcome {
+    pub status: u8,
+}
+
+/// The limits of a rehearsal.
+const LIMITS: Limits = Limits {
+    pages: 7167,
+    nodes: 1024,
+};
+
+/// The most bytes that are read: one more than a script may have.
+const MOST_READ: usize = 16_777_217;
+
+/// Runs a command. The words are judged first, then the source is read, then the script is judged and played, and
+/// last the lines are written.
+pub fn run<S: Source, O: Sink>(alloc: Global, words: &[Bytes], source: &mut S, sink: &mut O) -> Outcome
+    // Over a source and a sink that tell their bytes: what is due, and that it was written.
+    ensures written { (input before : List ℕ) → S.left source.old ≡ Some input → O.written sink.old ≡ Some before →
+        (ending : Ending) × (due : List ℕ) × IsDue words.now input ending due
+        × IsWritten ending result.status (HasRisen (O.faults sink.old) (O.faults sink.new))
+            (HasRisen (O.shortages sink.old) (O.shortages sink.new)) before due (O.written sink.new) }
+
+    // Always: 2 exactly at faulty words, 3 and 4 only where the counts of faults rose.
+    ensures words { (result.status ≡ 2) ↔ (are_words words.now ≡ false) }
+    ensures source_fault { result.status ≡ 3 → HasRisen (S.faults source.old) (S.faults source.new) }
+    ensures sink_fault { result.status ≡ 4 → HasRisen (O.faults sink.old) (O.faults sink.new) }
+
+    // The source is read to its end where the run is whole, and never further than this.
+    ensures read_whole { (input : List ℕ) → S.left source.old ≡ Some input → result.status ≡ 0 → S.left source.new ≡ Some [] }
+    ensures read_at_most { (input : List ℕ) → S.left source.old ≡ Some input → TakesAtMost most_read input (S.left source.new) }
+{
+    let mut report = Report::new(alloc);
+    let ending = decide(alloc, words, source, &mut report);
+    Outcome {
+        status: finish(ending, report.bytes(), sink),
+    }
+}
+
+/// What the words and the source come to. The report then has the lines that are due before the error line.
+fn decide<S: Source>(alloc: Global, words: &[Bytes], source: &mut S, report: &mut Report) -> Ending
+    requires { report.old ≡ [] }
+    ensures reports { (input : List ℕ) → S.left source.old ≡ Some input → Reports words.now input result report.new }
+    ensures words { (result ≡ Ending.Words) ↔ (are_words words.now ≡ false) }
+    ensures fault { result ≡ Ending.Source → HasRisen (S.faults source.old) (S.faults source.new) }
+    ensures read_whole { (input : List ℕ) → S.left source.old ≡ Some input → result ≡ Ending.Whole → S.left source.new ≡ Some [] }
+    ensures read_at_most { (input : List ℕ) → S.left source.old ≡ Some input → TakesAtMost most_read input (S.left source.new) }
+{
+    if !are_words(words) {
+        return Ending::Words;
+    }
+    match read_front(alloc, source, MOST_READ) {
+        Ok(bytes) => rehearse(alloc, bytes.slice(), report),
+        Err(ReadError::Fault) => Ending::Source,
+        Err(ReadError::Memory) => Ending::Memory,
+    }
+}
+
+/// Whether the words are none, or the one word `rehearse`.
+fn are_words(words: &[Bytes]) -> bool
+    ensures { result ≡ are_words words.now }
+{
+    match words {
+        [] => true,
+        [word] => word.slice() == b"rehearse".as_slice(),
+        _ => false,
+    }
+}
+
+/// Reads and plays a script. The report then has the lines that are due before the error line.
+fn rehearse(alloc: Global, bytes: &[u8], report: &mut Report) -> Ending
+    requires { report.old ≡ [] }
+    ensures reports { (words : List (List ℕ)) (input : List ℕ) → are_words words ≡ true → bytes.now ≡ take most_read input →
+        Reports words input result report.new }
+    ensures whole { result ≡ Ending.Whole → length bytes.now < most_read }
+    ensures no_words { result ≢ Ending.Words }
+    ensures no_source { result ≢ Ending.Source }
+{
+    match read_script(alloc, bytes) {
+        Ok(scripts) => play(alloc, scripts, report),
+        Err(ScriptError::NotYet { line }) => refuse(report, line),
+        Err(ScriptError::Memory) => Ending::Memory,
+    }
+}
+
+/// The line of a script that can't be played yet.
+fn refuse(report: &mut Report, line: u64) -> Ending
+    ensures refused { result ≡ Ending.NotYet line → report.new ≡ report.old ++ epoch_line (codes "error notyet ") line }
+    ensures memory { result ≢ Ending.NotYet line → (result ≡ Ending.Memory) × (report.new ≡ report.old) }
+{
+    match report.numbered(b"error notyet ", line) {
+        Ok(()) => Ending::NotYet { line },
+        Err(_) => Ending::Memory,
+    }
+}
+
+/// Plays scripts on a new folder, and reports its history and what was published.
+fn play(alloc: Global, scripts: Scripts, report: &mut Report) -> Ending
+    requires new { report.old ≡ [] }
+    requires range { AreInRange scripts }
+    requires few { line_count scripts ≤ most_read }
+    ensures { TellsHistory (history_of_run scripts) result report.new }
+{
+    let Ok(mut folder) = Folder::new(alloc, LIMITS) else {
+        return Ending::Memory;
+    };
+    match play_scripts(alloc, &mut folder, scripts) {
+        Ok(()) => report_whole(&folder, report),
+        Err(_) => report_front(&folder, report),
+    }
+}
+
+/// The lines of a folder's history and the listing of what it published.
+fn report_whole(folder: &Folder, report: &mut Report) -> Ending
+    requires new { report.old ≡ [] }
+    requires quiet { IsQuiet folder.now.core }
+    requires frozen { is_unfrozen folder.now.core.history ≡ false }
+    ensures { TellsHistory folder.now.core.history result report.new }
+{
+    let told = report.history(folder.history().entries());
+    if told.is_err() {
+        return Ending::Memory;
+    }
+    match report.listing(folder.cloud()) {
+        Ok(()) => Ending::Whole,
+        Err(_) => Ending::Memory,
+    }
+}
+
+/// The lines of a folder's history, as far as memory is found.
+fn report_front(folder: &Folder, report: &mut Report) -> Ending
+    requires new { report.old ≡ [] }
+    ensures memory { result ≡ Ending.Memory }
+    ensures front { TellsHistory folder.now.core.history Ending.Memory report.new }
+{
+    let _ = report.history(folder.history().entries());
+    Ending::Memory
+}
+
+/// Writes what is due, and answers the status.
+fn finish<O: Sink>(ending: Ending, lines: &[u8], sink: &mut O) -> u8
+    ensures written { (before : List ℕ) → O.written sink.old ≡ Some before →
+        IsWritten ending result (HasRisen (O.faults sink.old) (O.faults sink.new))
+            (HasRisen (O.shortages sink.old) (O.shortages sink.new)) before (lines.now ++ error_line ending) (O.written sink.new) }
+    ensures status { (result ≡ status_of ending)
+        ⊎ (((result ≡ status_after_fault ending) × HasRisen (O.faults sink.old) (O.faults sink.new))
+        ⊎ (result ≡ status_after_shortage ending)) }
+{
+    match write_both(sink, lines, ending.error_line()) {
+        Ok(()) => ending.status(),
+        Err(SinkError::Failed) => ending.status_after_fault(),
+        Err(SinkError::Memory) => ending.status_after_shortage(),
+    }
+}
+
+/// Writes one text and then another.
+fn write_both<O: Sink>(sink: &mut O, first: &[u8], second: &[u8]) -> Result<(), SinkError>
+    ensures written { (before : List ℕ) → O.written sink.old ≡ Some before →
+        WritesWhole before (first.now ++ second.now) result (O.written sink.new) }
+    ensures failed { result ≡ Err SinkError.Failed → HasRisen (O.faults sink.old) (O.faults sink.new) }
+    ensures memory { result ≡ Err SinkError.Memory → HasRisen (O.shortages sink.old) (O.shortages sink.new) }
+{
+    match write_whole(sink, first) {
+        Ok(()) => write_whole(sink, second),
+        Err(error) => Err(error),
+    }
+}
