@@ -27,7 +27,7 @@ pub goes_on-lines : (limits : Limits) (writer : ℕ) (history : List Entry) (ls 
 goes_on-lines limits writer history [] = goes_on-same history
 goes_on-lines limits writer history (l ∷ ls) =
     goes_on-trans history (after_line limits writer history l) (fold (after_line limits writer) (after_line limits writer history l) ls)
-      (goes_on-line limits writer history l) (goes_on-lines limits writer (after_line limits writer history l) ls)
+    (goes_on-line limits writer history l) (goes_on-lines limits writer (after_line limits writer history l) ls)
 
 -- a writer's history goes on from that of its lines
 pub goes_on-end : (limits : Limits) (history : List Entry) (script : WriterScript) → GoesOn (fold (after_line limits script.writer) history script.lines) (after_writer limits history script)
@@ -36,13 +36,13 @@ goes_on-end limits history script = (End script.writer ∷ [], refl)
 pub goes_on-writer : (limits : Limits) (history : List Entry) (script : WriterScript) → GoesOn history (after_writer limits history script)
 goes_on-writer limits history script =
     goes_on-trans history (fold (after_line limits script.writer) history script.lines) (after_writer limits history script)
-      (goes_on-lines limits script.writer history script.lines) (goes_on-end limits history script)
+    (goes_on-lines limits script.writer history script.lines) (goes_on-end limits history script)
 
 pub goes_on-scripts : (limits : Limits) (history : List Entry) (scripts : List WriterScript) → GoesOn history (fold (after_writer limits) history scripts)
 goes_on-scripts limits history [] = goes_on-same history
 goes_on-scripts limits history (s ∷ ss) =
     goes_on-trans history (after_writer limits history s) (fold (after_writer limits) (after_writer limits history s) ss)
-      (goes_on-writer limits history s) (goes_on-scripts limits (after_writer limits history s) ss)
+    (goes_on-writer limits history s) (goes_on-scripts limits (after_writer limits history s) ss)
 
 -- the run's history goes on from that of all writers
 pub goes_on-last : (history : List Entry) → GoesOn history (with_last_freeze history)
@@ -58,7 +58,7 @@ goes_on-through_lines limits start history now script line items left h is same 
     let f = after_line limits script.writer in
     let P : List Entry → Type 0 = λ k. GoesOn now k in
     let through : GoesOn now (fold f history items) =
-      subst P (ap (fold f history) (sym is)) (goes_on-trans now (f history line) (fold f (f history line) left) h (goes_on-lines limits script.writer (f history line) left)) in
+    subst P (ap (fold f history) (sym is)) (goes_on-trans now (f history line) (fold f (f history line) left) h (goes_on-lines limits script.writer (f history line) left)) in
     goes_on-trans now (fold f start script.lines) (after_writer limits start script) (subst P same through) (goes_on-end limits start script)
 
 -- what goes on to a writer goes on to the whole run
@@ -67,5 +67,5 @@ goes_on-through_writers limits history now script scripts items left h is same =
     let f = after_writer limits in
     let P : List Entry → Type 0 = λ k. GoesOn now k in
     let through : GoesOn now (fold f history items) =
-      subst P (ap (fold f history) (sym is)) (goes_on-trans now (f history script) (fold f (f history script) left) h (goes_on-scripts limits (f history script) left)) in
+    subst P (ap (fold f history) (sym is)) (goes_on-trans now (f history script) (fold f (f history script) left) h (goes_on-scripts limits (f history script) left)) in
     goes_on-trans now (fold f [] scripts) (quiet_history limits scripts) (subst P same through) (goes_on-last (fold f [] scripts))

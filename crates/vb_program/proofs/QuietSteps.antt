@@ -30,9 +30,9 @@ quiet-call core writer op q =
       last = q.last ∙ sym (fold-append epoch_after 0 core.history (entry ∷ []));
       published = q.published;
       active =
-        ap (λ tree. tree_after_reply tree op reply) q.active ∙ sym (fold-append tree_after_entry [] core.history (entry ∷ []));
+          ap (λ tree. tree_after_reply tree op reply) q.active ∙ sym (fold-append tree_after_entry [] core.history (entry ∷ []));
       shown = λ unfrozen.
-        shown-call core.active core.published_tree op (is_done reply) (is_unfrozen core.history) q.shown
+          shown-call core.active core.published_tree op (is_done reply) (is_unfrozen core.history) q.shown
           (sym (fold-append unfrozen_after false core.history (entry ∷ [])) ∙ unfrozen);
     }
 

@@ -46,7 +46,7 @@ whole_text history = history_text history ++ listing_text (last_epoch_of history
 abbrev pub AreFirstLines : List ℕ → List ℕ → Type 0
 AreFirstLines input lines =
     (lines ≡ []) ⊎ ((scripts : List WriterScript) × (front : List Entry)
-      × (script_in input ≡ Ok scripts) × GoesOn front (history_of_run scripts) × (lines ≡ history_text front))
+    × (script_in input ≡ Ok scripts) × GoesOn front (history_of_run scripts) × (lines ≡ history_text front))
 
 -- the status of each ending
 abbrev pub status_of : Ending → ℕ
@@ -99,4 +99,4 @@ abbrev pub IsWritten : Ending → ℕ → Type 0 → Type 0 → List ℕ → Lis
 IsWritten ending status fault shortage before due written =
     ((status ≡ status_of ending) × (written ≡ Some (before ++ due)))
     ⊎ (((rest : List ℕ) × WritesFront before due written rest)
-      × (((status ≡ status_after_fault ending) × fault) ⊎ ((status ≡ status_after_shortage ending) × shortage)))
+    × (((status ≡ status_after_fault ending) × fault) ⊎ ((status ≡ status_after_shortage ending) × shortage)))

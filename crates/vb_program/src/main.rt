@@ -7,7 +7,6 @@ mod run;
 
 pub use ending::Ending;
 pub use run::{Outcome, run};
-
 use std::process::ExitCode;
 use std::rt::Env;
 use std::{env, io};
@@ -37,3 +36,6 @@ fn words_of<R: Env + AllocGlobal>(rt: &R) -> io::Result<Names> {
     }
     Ok(words)
 }
+
+#[cfg(test)]
+mod tests;

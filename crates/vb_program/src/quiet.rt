@@ -100,7 +100,10 @@ fn has_changed(entries: &[Entry]) -> bool
     let mut changed = false;
     for entry in entries {
         match entry {
-            Entry::Call { reply: Reply::Done, .. } => changed = true,
+            Entry::Call {
+                reply: Reply::Done,
+                ..
+            } => changed = true,
             Entry::Freeze { .. } => changed = false,
             _ => {}
         }

@@ -36,12 +36,17 @@ const MOST_READ: usize = 16_777_217;
 
 /// Runs a command. The words are judged first, then the source is read, then the script is judged and played, and
 /// last the lines are written.
-pub fn run<S: Source, O: Sink>(alloc: Global, words: &[Bytes], source: &mut S, sink: &mut O) -> Outcome
+pub fn run<S: Source, O: Sink>(
+    alloc: Global,
+    words: &[Bytes],
+    source: &mut S,
+    sink: &mut O,
+) -> Outcome
     // Over a source and a sink that tell their bytes: what is due, and that it was written.
     ensures written { (input before : List ℕ) → S.left source.old ≡ Some input → O.written sink.old ≡ Some before →
         (ending : Ending) × (due : List ℕ) × IsDue words.now input ending due
         × IsWritten ending result.status (HasRisen (O.faults sink.old) (O.faults sink.new))
-            (HasRisen (O.shortages sink.old) (O.shortages sink.new)) before due (O.written sink.new) }
+        (HasRisen (O.shortages sink.old) (O.shortages sink.new)) before due (O.written sink.new) }
 
     // Always: 2 exactly at faulty words, 3 and 4 only where the counts of faults rose.
     ensures words { (result.status ≡ 2) ↔ (are_words words.now ≡ false) }
@@ -163,7 +168,7 @@ fn report_front(folder: &Folder, report: &mut Report) -> Ending
 fn finish<O: Sink>(ending: Ending, lines: &[u8], sink: &mut O) -> u8
     ensures written { (before : List ℕ) → O.written sink.old ≡ Some before →
         IsWritten ending result (HasRisen (O.faults sink.old) (O.faults sink.new))
-            (HasRisen (O.shortages sink.old) (O.shortages sink.new)) before (lines.now ++ error_line ending) (O.written sink.new) }
+        (HasRisen (O.shortages sink.old) (O.shortages sink.new)) before (lines.now ++ error_line ending) (O.written sink.new) }
     ensures status { (result ≡ status_of ending)
         ⊎ (((result ≡ status_after_fault ending) × HasRisen (O.faults sink.old) (O.faults sink.new))
         ⊎ (result ≡ status_after_shortage ending)) }

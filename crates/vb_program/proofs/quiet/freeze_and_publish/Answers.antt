@@ -14,4 +14,4 @@ pub returns-in_err-make-3-clause-err : goal.returns-in_err-make-3-clause-err
 returns-in_err-make-3-clause-err c =
     let p = err_from_is_err_and c.from_residual-in_err-make-3.result c.from_residual-in_err-make-3.ensures.1 in
     rw p.1 (goes_on-commit c.args.folder.now.core _ c.args.by c.requires.quiet c.requires.epochs
-      (c.in_err-make-3.ensures.err ∙ c.in_ok-make-2.ensures.ok ∙ ap (λ k. core_after k events.CommitStep) c.in_ok-make.ensures.ok))
+    (c.in_err-make-3.ensures.err ∙ c.in_ok-make-2.ensures.ok ∙ ap (λ k. core_after k events.CommitStep) c.in_ok-make.ensures.ok))

@@ -10,4 +10,4 @@ returns-in_err-play_writer-clause-err c =
     let items : into_iter_items c.loop-script.script-iterator ≡ c.in-Some.script ∷ into_iter_items c.next.new.self = search rules in
     let front = rw c.loop-script.invariant.limits at c.in_err-play_writer.ensures.err in
     rw p.1
-      (goes_on-through_writers c.args.folder.now.core.limits c.loop-script.folder.core.history c.play_writer.new.folder.core.history c.in-Some.script c.args.scripts (into_iter_items c.loop-script.script-iterator) (into_iter_items c.next.new.self) front items c.loop-script.invariant.played)
+    (goes_on-through_writers c.args.folder.now.core.limits c.loop-script.folder.core.history c.play_writer.new.folder.core.history c.in-Some.script c.args.scripts (into_iter_items c.loop-script.script-iterator) (into_iter_items c.next.new.self) front items c.loop-script.invariant.played)

@@ -10,4 +10,4 @@ returns-in_err-play_line-clause-err c =
     let items : into_iter_items c.loop-line.line-iterator ≡ c.in-Some.line ∷ into_iter_items c.next.new.self = search rules in
     let front = rw c.loop-line.invariant.limits at c.in_err-play_line.ensures.err in
     rw p.1
-      (goes_on-through_lines c.args.folder.now.core.limits c.args.folder.now.core.history c.loop-line.folder.core.history c.play_line.new.folder.core.history c.args.script c.in-Some.line (into_iter_items c.loop-line.line-iterator) (into_iter_items c.next.new.self) front items c.loop-line.invariant.played)
+    (goes_on-through_lines c.args.folder.now.core.limits c.args.folder.now.core.history c.loop-line.folder.core.history c.play_line.new.folder.core.history c.args.script c.in-Some.line (into_iter_items c.loop-line.line-iterator) (into_iter_items c.next.new.self) front items c.loop-line.invariant.played)
