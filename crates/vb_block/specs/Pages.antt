@@ -6,9 +6,13 @@ use Rattle.sha2.specs.Sha256.{sha256}
 abbrev pub IsPage : List ℕ → Type 0
 IsPage bytes = length bytes ≡ 4096
 
+-- the page whose bytes are all this one
+unfoldable pub filled_page : ℕ → List ℕ
+filled_page byte = replicate 4096 byte
+
 -- the page of zeros
-unfoldable pub zero_page : List ℕ
-zero_page = replicate 4096 0
+abbrev pub zero_page : List ℕ
+zero_page = filled_page 0
 
 -- the bytes, with these from a place on
 abbrev pub overwritten : List ℕ → ℕ → List ℕ → List ℕ

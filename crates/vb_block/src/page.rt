@@ -23,7 +23,7 @@ impl Model for Page {
 }
 
 impl Page {
-    ghost use Rattle.vb_block.specs.Pages.{zero_page, overwritten, IsPage};
+    ghost use Rattle.vb_block.specs.Pages.{zero_page, filled_page, overwritten, IsPage};
 
     /// 4,096 zeros.
     pub fn zero(alloc: Global) -> Result<Page, AllocError>
@@ -60,5 +60,21 @@ impl Page {
         let end = at + bytes.len();
         let page: &mut [u8; 4096] = &mut self.bytes;
         page[at..end].copy_from_slice(bytes);
+    }
+
+    /// Makes each byte this one.
+    pub fn fill(&mut self, byte: u8)
+        ensures filled { self.new ≡ filled_page byte }
+        ensures page { IsPage self.new }
+    {
+        *self.bytes = [byte; 4096];
+    }
+
+    /// Makes its bytes those of another page.
+    pub fn copy_from(&mut self, other: &Page)
+        ensures copied { self.new ≡ other.now }
+        ensures page { IsPage self.new }
+    {
+        *self.bytes = *other.bytes;
     }
 }

@@ -1,0 +1,12 @@
+// Disks: what one may do, what a crash may leave of it, and a disk in memory that does just that.
+#![tactic(auto)]
+
+mod cell;
+mod disk;
+mod disk_error;
+mod moments;
+
+pub use cell::Cell;
+pub use disk::Disk;
+pub use disk_error::DiskError;
+pub use moments::{no_call, no_sync, one_call};
