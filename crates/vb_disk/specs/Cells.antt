@@ -1,7 +1,9 @@
 -- One place of a disk: its candidates, what it reads as, and what the calls make of it.
-use Rattle.std.specs.Prelude.{ℕ, List, [], ◌∷◌, ◌++◌, length, get_or, Option, Some, None, unwrap_or}
+use Rattle.std.specs.Prelude.{ℕ, Bool, ◌==◌, if◌then◌else◌, List, [], ◌∷◌, ◌++◌, length, get_or, Option, Some, None, unwrap_or}
 use Rattle.vb_block.specs.Pages.{zero_page}
 use Rattle.vb_disk.specs.declared.cell.Cell.{Cell}
+use Rattle.vb_disk.specs.declared.side.Side.{Side}
+use Rattle.vb_disk.specs.declared.side.Side.TheVariants.{First, Last}
 
 -- the candidates of a place, the oldest first
 abbrev pub candidates : Cell → List (List ℕ)
@@ -30,3 +32,24 @@ kept_cell cell i = record { first = candidate_at cell i; later = []; hurt = cell
 -- after a sync: the newest candidate is left
 abbrev pub synced_cell : Cell → Cell
 synced_cell cell = kept_cell cell (length cell.later)
+
+-- the position of the candidate on this side
+abbrev pub side_index : Side → Cell → ℕ
+side_index First cell = 0
+side_index Last cell = length cell.later
+
+-- the candidate on this side is left
+abbrev pub settled_cell : Side → Cell → Cell
+settled_cell side cell = kept_cell cell (side_index side cell)
+
+-- whether a place has one candidate alone
+abbrev pub is_settled : Cell → Bool
+is_settled cell = length cell.later == 0
+
+-- a candidate was picked; where there is one alone, it stands
+abbrev pub picked_cell : ℕ → Cell → Cell
+picked_cell i cell = if is_settled cell then cell else kept_cell cell i
+
+-- the place is hurt and reads as these bytes
+abbrev pub hurt_cell : Cell → List ℕ → Cell
+hurt_cell cell bytes = record { first = cell.first; later = cell.later; hurt = Some bytes }

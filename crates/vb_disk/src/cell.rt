@@ -1,4 +1,6 @@
 // One place of a disk.
+use std::alloc::Global;
+use std::mem;
 use vb_block::Page;
 use vb_list::Items;
 
@@ -12,4 +14,33 @@ pub struct Cell {
     pub later: Items<Page>,
     /// What a hurt place reads as.
     pub hurt: Option<Page>,
+}
+
+impl Cell {
+    ghost use Rattle.std.specs.Prelude.{◌≡◌, ◌≤◌, length};
+    ghost use Rattle.vb_disk.specs.Cells.{kept_cell, read_of};
+
+    /// What a read gives.
+    pub fn seen(&self) -> &Page
+        ensures { result.now ≡ read_of self.now }
+    {
+        if let Some(page) = &self.hurt {
+            return page;
+        }
+        match self.later.slice().last() {
+            Some(page) => page,
+            None => &self.first,
+        }
+    }
+
+    /// Leaves one candidate alone, counted from the oldest. It takes no memory.
+    pub fn keep(&mut self, alloc: Global, index: usize)
+        requires { index ≤ length self.old.later }
+        ensures { self.new ≡ kept_cell self.old index }
+    {
+        let mut later = mem::replace(&mut self.later, Items::new(alloc)).into_vec();
+        if index > 0 {
+            self.first = later.swap_remove(index - 1);
+        }
+    }
 }

@@ -2,11 +2,16 @@
 #![tactic(auto)]
 
 mod cell;
+mod cells;
 mod disk;
 mod disk_error;
+mod failures;
 mod moments;
+mod side;
 
 pub use cell::Cell;
 pub use disk::Disk;
 pub use disk_error::DiskError;
+pub use failures::{Failure, Failures};
+pub use side::Side;
 pub use moments::{no_call, no_sync, one_call};
