@@ -1,10 +1,11 @@
 -- The places of a disk that hold something else than zeros, as a map from their numbers.
-use Rattle.std.specs.Prelude.{◌≡◌, ◌≢◌, ℕ, true, ◌||◌, nat_eq, List, ◌++◌, unwrap_or}
+use Rattle.std.specs.Prelude.{◌≡◌, ◌≢◌, ◌≤◌, ℕ, true, false, ◌||◌, nat_eq, List, ◌++◌, Some, is_some, unwrap_or}
 use Rattle.std.specs.List.{list_any}
 use Rattle.std.specs.Ordering.{nat_cmp}
 use Rattle.std.specs.BTreeMap.{BTreeMap, get}
 use Rattle.vb_disk.specs.declared.cell.Cell.{Cell}
 use Rattle.vb_disk.specs.Cells.{blank_cell, is_settled}
+use Rattle.vb_disk.specs.Crashes.{IsMiss}
 
 -- what stands at a place: it is blank where the map has nothing
 abbrev pub cell_in : BTreeMap ℕ Cell → ℕ → Cell
@@ -26,3 +27,10 @@ KeepsAll old new = (place : ℕ) → get nat_cmp new place ≡ get nat_cmp old p
 pub record ChangesOne (old new : BTreeMap ℕ Cell) (place : ℕ) (cell : Cell) : Type 0 where
   pub here : cell_in new place ≡ cell
   pub others : (other : ℕ) → other ≢ place → get nat_cmp new other ≡ get nat_cmp old other
+
+-- what a table of places keeps: nothing past its size, a list of all places with more than one candidate, and each
+-- hurt place reads as a miss
+pub record IsTable (size : ℕ) (cells : BTreeMap ℕ Cell) (listed : List ℕ) : Type 0 where
+  pub inside : (place : ℕ) → size ≤ place → is_some (get nat_cmp cells place) ≡ false
+  pub all_listed : IsListed cells listed
+  pub misses : (place : ℕ) (bytes : List ℕ) → (cell_in cells place).hurt ≡ Some bytes → IsMiss (cell_in cells place) bytes

@@ -1,5 +1,5 @@
 // One place of a disk.
-use std::alloc::Global;
+use std::alloc::{AllocError, Global};
 use std::mem;
 use vb_block::Page;
 use vb_list::Items;
@@ -17,8 +17,19 @@ pub struct Cell {
 }
 
 impl Cell {
-    ghost use Rattle.std.specs.Prelude.{◌≡◌, ◌≤◌, length};
-    ghost use Rattle.vb_disk.specs.Cells.{kept_cell, read_of};
+    ghost use Rattle.std.specs.Prelude.{◌≡◌, ◌≤◌, length, IfOk};
+    ghost use Rattle.vb_disk.specs.Cells.{blank_cell, kept_cell, read_of};
+
+    /// A place that was never written: zeros alone.
+    pub fn blank(alloc: Global) -> Result<Cell, AllocError>
+        ensures { IfOk result (λ cell. cell ≡ blank_cell) }
+    {
+        Ok(Cell {
+            first: Page::zero(alloc)?,
+            later: Items::new(alloc),
+            hurt: None,
+        })
+    }
 
     /// What a read gives.
     pub fn seen(&self) -> &Page

@@ -8,6 +8,7 @@ mod disk_error;
 mod failures;
 mod moments;
 mod side;
+mod table;
 
 pub use cell::Cell;
 pub use disk::Disk;
