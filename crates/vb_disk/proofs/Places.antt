@@ -71,8 +71,8 @@ IsTable-kept size old new before after was keeps listed = record {
 pub IsTable-changed : (size : ℕ) (old new : BTreeMap ℕ Cell) (before after : List ℕ) (place : ℕ) (cell : Cell) → IsTable size old before → place < size → ChangesOne old new place cell → IsListed new after → ReadsAsMiss cell → IsTable size new after
 IsTable-changed size old new before after place cell was within change listed reads = record {
   inside = λ other past.
-    let apart : other ≢ place = omega arith in
-    ap is_some (change.others other apart) ∙ was.inside other past;
+      let apart : other ≢ place = omega arith in
+      ap is_some (change.others other apart) ∙ was.inside other past;
   all_listed = listed;
   misses = λ other. elim (cases_eq other place) [
     | inl same ↦
@@ -103,9 +103,9 @@ pub IsTable-cut : (size blocks : ℕ) (old new : BTreeMap ℕ Cell) (listed : Li
 IsTable-cut size blocks old new listed was cut = record {
   inside = λ place past. ap is_some (cut place ∙ cond-false (ltb place blocks) (get nat_cmp old place) None (le-ltb place blocks past));
   all_listed = λ place. subst (λ c. (is_settled c || list_any (nat_eq place) listed) ≡ true) (sym (cell_in-cut old new blocks place (cut place)))
-    (elim (ltb place blocks) as (λ b. (is_settled (cond b (cell_in old place) blank_cell) || list_any (nat_eq place) listed) ≡ true) [ true ↦ was.all_listed place | false ↦ refl ]);
+      (elim (ltb place blocks) as (λ b. (is_settled (cond b (cell_in old place) blank_cell) || list_any (nat_eq place) listed) ≡ true) [ true ↦ was.all_listed place | false ↦ refl ]);
   misses = λ place. subst ReadsAsMiss (sym (cell_in-cut old new blocks place (cut place)))
-    (elim (ltb place blocks) as (λ b. ReadsAsMiss (cond b (cell_in old place) blank_cell)) [ true ↦ was.misses place | false ↦ ReadsAsMiss-blank ]);
+      (elim (ltb place blocks) as (λ b. ReadsAsMiss (cond b (cell_in old place) blank_cell)) [ true ↦ was.misses place | false ↦ ReadsAsMiss-blank ]);
 }
 
 -- a change that may find no memory

@@ -133,8 +133,7 @@ OnlyWrites-Reaches old new stand way same =
 pub moment_by_writes : (old new d : DiskState) → CountsStand new → IsMoment old new d → new.syncs ≡ old.syncs → OnlyWrites old d × OnlyWrites d new
 moment_by_writes old new d stand moment same =
     let back = Reaches-more d new stand moment.after in
-    let forth = Reaches-more old d back.stood moment.before in
-    (
+    let forth = Reaches-more old d back.stood moment.before in (
       OnlyWrites-Reaches old d back.stood moment.before (omega arith),
       OnlyWrites-Reaches d new stand moment.after (omega arith),
     )

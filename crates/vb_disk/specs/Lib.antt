@@ -2,6 +2,8 @@ pub mod Causes
 pub mod Cells
 pub mod Crashes
 pub mod Failing
+pub mod Memory
 pub mod Moments
 pub mod Sparse
 pub mod States
+pub mod Valid

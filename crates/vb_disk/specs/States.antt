@@ -14,6 +14,10 @@ pub record DiskState : Type 0 where
   pub writes : ℕ
   pub syncs : ℕ
 
+-- a disk of this many places that was never written
+abbrev pub new_state : ℕ → DiskState
+new_state blocks = record { size = blocks; cells = λ place. blank_cell; writes = 0; syncs = 0 }
+
 -- what a read of a place gives
 abbrev pub read_at : DiskState → ℕ → List ℕ
 read_at d place = read_of (d.cells place)

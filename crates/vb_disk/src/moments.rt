@@ -7,18 +7,15 @@ ghost use Rattle.vb_disk.specs.Moments.{Reaches, CountsStand, IsMoment, OnlyWrit
 /// From a state to itself there is no moment but that one.
 pub fn no_call()
     ensures { (old d : DiskState) → CountsStand old → IsMoment old old d → d ≡ old }
-{
-}
+{}
 
 /// One call has two moments: the one before it and the one after it.
 pub fn one_call()
     ensures { (old d : DiskState) (call : DiskCall) → CountsStand (after_call old call) → IsMoment old (after_call old call) d
         → (d ≡ old) ⊎ (d ≡ after_call old call) }
-{
-}
+{}
 
 /// Without a sync, each moment lies between the two states by writes alone.
 pub fn no_sync()
     ensures { (old new d : DiskState) → CountsStand new → IsMoment old new d → new.syncs ≡ old.syncs → OnlyWrites old d × OnlyWrites d new }
-{
-}
+{}
