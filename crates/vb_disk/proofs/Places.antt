@@ -8,9 +8,9 @@ use Rattle.std.proofs.lemmas.List.{get_or_past}
 use Rattle.std.proofs.lemmas.List.Elements.{All-nil, All-cons}
 use Rattle.sha2.specs.Sha256.{sha256}
 use Rattle.vb_disk.specs.declared.cell.Cell.{Cell}
-use Rattle.vb_disk.specs.declared.side.Side.{Side}
+use Rattle.vb_disk.specs.declared.crash.Side.{Side}
 use Rattle.vb_disk.specs.Cells.{blank_cell, candidates, candidate_at, kept_cell, settled_cell, side_index, is_settled}
-use Rattle.vb_disk.specs.Crashes.{IsMiss}
+use Rattle.vb_disk.specs.Misses.{IsMiss}
 use Rattle.vb_disk.specs.Sparse.{cell_in, ChangesOne, KeepsAll, IsListed, IsTable}
 
 -- what the map has at a place says what stands there

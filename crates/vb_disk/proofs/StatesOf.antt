@@ -4,10 +4,10 @@ use Rattle.std.specs.Ordering.{nat_cmp}
 use Rattle.std.specs.BTreeMap.{BTreeMap, get}
 use Rattle.vb_block.specs.Pages.{filled_page}
 use Rattle.vb_disk.specs.declared.cell.Cell.{Cell}
-use Rattle.vb_disk.specs.declared.side.Side.TheVariants.{Last}
+use Rattle.vb_disk.specs.declared.crash.Side.TheVariants.{Last}
 use Rattle.vb_disk.specs.Cells.{blank_cell, read_of, written_cell, settled_cell}
 use Rattle.vb_disk.specs.States.{DiskState, counted, written, synced, resized}
-use Rattle.vb_disk.specs.Sparse.{cell_in, ChangesOne, KeepsAll}
+use Rattle.vb_disk.specs.Sparse.{cell_in, state_from, ChangesOne, KeepsAll}
 use Rattle.vb_disk.proofs.Places.{cell_from_get, cell_in-changed}
 
 -- states are one where all places and counts are
@@ -22,10 +22,6 @@ OnErr-from (Err e) holds = holds
 pub OnOk-from : {T E P : Type 0} (r : Result T E) → P → OnOk r P
 OnOk-from (Ok x) holds = holds
 OnOk-from (Err e) holds = tt
-
--- the state of a table
-abbrev pub state_from : ℕ → BTreeMap ℕ Cell → ℕ → ℕ → DiskState
-state_from size cells writes syncs = record { size = size; cells = λ place. cell_in cells place; writes = writes; syncs = syncs }
 
 pub state_from-kept : (size size' writes syncs : ℕ) (old new : BTreeMap ℕ Cell) → size' ≡ size → KeepsAll old new → state_from size' new writes syncs ≡ state_from size old writes syncs
 state_from-kept size size' writes syncs old new same keeps =

@@ -2,8 +2,8 @@
 use Rattle.std.specs.Prelude.{ℕ, Bool, ◌==◌, if◌then◌else◌, List, [], ◌∷◌, ◌++◌, length, get_or, Option, Some, None, unwrap_or}
 use Rattle.vb_block.specs.Pages.{zero_page}
 use Rattle.vb_disk.specs.declared.cell.Cell.{Cell}
-use Rattle.vb_disk.specs.declared.side.Side.{Side}
-use Rattle.vb_disk.specs.declared.side.Side.TheVariants.{First, Last}
+use Rattle.vb_disk.specs.declared.crash.Side.{Side}
+use Rattle.vb_disk.specs.declared.crash.Side.TheVariants.{First, Last}
 
 -- the candidates of a place, the oldest first
 abbrev pub candidates : Cell → List (List ℕ)

@@ -1,5 +1,6 @@
 pub mod Causes
 pub mod Cells
+pub mod Misses
 pub mod Crashes
 pub mod Failing
 pub mod Memory

@@ -5,7 +5,8 @@ use Rattle.std.specs.Ordering.{nat_cmp}
 use Rattle.std.specs.BTreeMap.{BTreeMap, get}
 use Rattle.vb_disk.specs.declared.cell.Cell.{Cell}
 use Rattle.vb_disk.specs.Cells.{blank_cell, is_settled}
-use Rattle.vb_disk.specs.Crashes.{IsMiss}
+use Rattle.vb_disk.specs.Misses.{IsMiss}
+use Rattle.vb_disk.specs.States.{DiskState}
 
 -- what stands at a place: it is blank where the map has nothing
 abbrev pub cell_in : BTreeMap ℕ Cell → ℕ → Cell
@@ -34,3 +35,7 @@ pub record IsTable (size : ℕ) (cells : BTreeMap ℕ Cell) (listed : List ℕ) 
   pub inside : (place : ℕ) → size ≤ place → is_some (get nat_cmp cells place) ≡ false
   pub all_listed : IsListed cells listed
   pub misses : (place : ℕ) (bytes : List ℕ) → (cell_in cells place).hurt ≡ Some bytes → IsMiss (cell_in cells place) bytes
+
+-- the state of a disk with these places
+abbrev pub state_from : ℕ → BTreeMap ℕ Cell → ℕ → ℕ → DiskState
+state_from size cells writes syncs = record { size = size; cells = λ place. cell_in cells place; writes = writes; syncs = syncs }

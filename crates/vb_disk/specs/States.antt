@@ -3,7 +3,7 @@ use Rattle.std.specs.Prelude.{◌≡◌, ℕ, ◌+◌, ◌≤◌, min, nat_lt, �
 use Rattle.vb_cause.specs.Faults.{greatest_count}
 use Rattle.vb_block.specs.Pages.{zero_page}
 use Rattle.vb_disk.specs.declared.cell.Cell.{Cell}
-use Rattle.vb_disk.specs.Crashes.{IsMiss}
+use Rattle.vb_disk.specs.Misses.{IsMiss}
 use Rattle.vb_disk.specs.Cells.{blank_cell, read_of, written_cell, synced_cell}
 
 -- what a disk holds. Past its size each place is blank. The two counts only grow: writes that were made, and syncs

@@ -3,13 +3,16 @@
 
 mod cell;
 mod cells;
+mod crash;
+mod crash_checks;
 mod disk;
 mod disk_error;
 mod failures;
 mod memory_calls;
 mod memory_disk;
+mod misses;
 mod moments;
-mod side;
+
 mod table;
 
 pub use cell::Cell;
@@ -18,4 +21,4 @@ pub use disk_error::DiskError;
 pub use failures::{Failure, Failures};
 pub use memory_disk::MemoryDisk;
 pub use moments::{no_call, no_sync, one_call};
-pub use side::Side;
+pub use crash::{CrashRefused, DamageRefused, MissRefused, Pick, Side, Tear};

@@ -2,7 +2,7 @@ use Rattle.std.proofs.Common.{◌≡◌, ℕ, is_some, length}
 use Rattle.std.specs.Ordering.{nat_cmp}
 use Rattle.std.specs.BTreeMap.{BTreeMap, get}
 use Rattle.vb_disk.specs.declared.cell.Cell.{Cell}
-use Rattle.vb_disk.specs.declared.side.Side.{Side}
+use Rattle.vb_disk.specs.declared.crash.Side.{Side}
 use Rattle.vb_disk.specs.Cells.{settled_cell}
 use Rattle.vb_disk.specs.Sparse.{cell_in, IsListed}
 use Rattle.vb_disk.proofs.cells.settle.Given as goal

@@ -1,6 +1,7 @@
 use Rattle.std.proofs.Common.{refl}
 use Rattle.vb_disk.specs.States.{new_state}
-use Rattle.vb_disk.proofs.StatesOf.{same_state, state_from}
+use Rattle.vb_disk.specs.Sparse.{state_from}
+use Rattle.vb_disk.proofs.StatesOf.{same_state}
 use Rattle.vb_disk.proofs.memory_disk.MemoryDisk.new.Goals as goal
 
 pub returns-clause-state : goal.returns-clause-state
