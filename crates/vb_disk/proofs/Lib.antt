@@ -1,3 +1,4 @@
 pub mod Places
 pub mod StatesOf
+pub mod TestsOfMisses
 pub mod Ways

@@ -3,15 +3,16 @@ use Rattle.std.proofs.Common.{◌≡◌, ◌≢◌, ℕ, ◌<◌, ◌≤◌, Boo
 use Rattle.std.specs.List.{list_any, All}
 use Rattle.std.specs.Ordering.{nat_cmp}
 use Rattle.std.specs.BTreeMap.{BTreeMap, get}
-use Rattle.std.proofs.lemmas.Bool.{cases_eq, cases_lt, cond-true, cond-false, eq-eqb, ne_eqb, lt-ltb, le-ltb, or_cases, or_left, or_right}
+use Rattle.std.proofs.lemmas.Bool.{cases_eq, cases_lt, cases_Bool, cond-true, cond-false, eq-eqb, ne_eqb, lt-ltb, le-ltb, or_cases, or_left, or_right}
 use Rattle.std.proofs.lemmas.List.{get_or_past}
 use Rattle.std.proofs.lemmas.List.Elements.{All-nil, All-cons}
 use Rattle.sha2.specs.Sha256.{sha256}
 use Rattle.vb_disk.specs.declared.cell.Cell.{Cell}
 use Rattle.vb_disk.specs.declared.crash.Side.{Side}
-use Rattle.vb_disk.specs.Cells.{blank_cell, candidates, candidate_at, kept_cell, settled_cell, side_index, is_settled}
-use Rattle.vb_disk.specs.Misses.{IsMiss}
+use Rattle.vb_disk.specs.Cells.{blank_cell, candidates, candidate_at, kept_cell, settled_cell, picked_cell, hurt_cell, side_index, is_settled}
+use Rattle.vb_disk.specs.Misses.{IsMiss, is_miss}
 use Rattle.vb_disk.specs.Sparse.{cell_in, ChangesOne, KeepsAll, IsListed, IsTable}
+use Rattle.vb_disk.proofs.TestsOfMisses.{is_miss-Decides}
 
 -- what the map has at a place says what stands there
 pub cell_from_get : (old new : BTreeMap ℕ Cell) (place : ℕ) → get nat_cmp new place ≡ get nat_cmp old place → cell_in new place ≡ cell_in old place
@@ -112,3 +113,57 @@ IsTable-cut size blocks old new listed was cut = record {
 pub IsTable-tried : {E : Type 0} (result : Result (Unit {0}) E) (size : ℕ) (old new : BTreeMap ℕ Cell) (before after : List ℕ) (place : ℕ) (cell : Cell) → IsTable size old before → place < size → OnOk result (ChangesOne old new place cell) → OnErr result (KeepsAll old new) → IsListed new after → ReadsAsMiss cell → IsTable size new after
 IsTable-tried (Ok done) size old new before after place cell was within change keeps listed reads = IsTable-changed size old new before after place cell was within change listed reads
 IsTable-tried (Err reason) size old new before after place cell was within change keeps listed reads = IsTable-kept size old new before after was keeps listed
+
+-- ---- hurt and picked places
+
+pub ReadsAsMiss-hurt_cell : (cell : Cell) (page : List ℕ) → IsMiss cell page → ReadsAsMiss (hurt_cell cell page)
+ReadsAsMiss-hurt_cell cell page miss bytes hurt =
+    let same : page ≡ bytes = cc hurt in
+    subst (λ (b : List ℕ). IsMiss (hurt_cell cell page) b) same (record { unsealed = miss.unsealed; unlike = miss.unlike })
+
+pub ReadsAsMiss-picked_cell : (i : ℕ) (cell : Cell) → ReadsAsMiss cell → ReadsAsMiss (picked_cell i cell)
+ReadsAsMiss-picked_cell i cell reads =
+    elim (is_settled cell) as (λ b. ReadsAsMiss (cond b cell (kept_cell cell i))) [ true ↦ reads | false ↦ ReadsAsMiss-kept_cell cell i reads ]
+
+pub is_settled-picked_cell : (i : ℕ) (cell : Cell) → is_settled (picked_cell i cell) ≡ true
+is_settled-picked_cell i cell = elim (cases_Bool (is_settled cell)) [
+  | inl settled ↦ ap is_settled (cond-true (is_settled cell) cell (kept_cell cell i) settled) ∙ settled
+  | inr unsettled ↦ ap is_settled (cond-false (is_settled cell) cell (kept_cell cell i) unsettled)
+]
+
+none_from : {T : Type 0} (o : Option T) → is_some o ≡ false → o ≡ None
+none_from None is = refl
+none_from (Some x) is = absurd (cc is)
+
+-- a place with two candidates or more lies within the disk
+pub within_from_unsettled : (size : ℕ) (cells : BTreeMap ℕ Cell) (listed : List ℕ) (place : ℕ) → IsTable size cells listed → is_settled (cell_in cells place) ≡ false → place < size
+within_from_unsettled size cells listed place was unsettled = elim (cases_lt place size) [
+  | inl within ↦ within
+  | inr past ↦
+      let blank : is_settled (cell_in cells place) ≡ true = ap (λ (o : Option Cell). is_settled (unwrap_or o blank_cell)) (none_from (get nat_cmp cells place) (was.inside place past)) in
+      absurd (cc (blank, unsettled))
+]
+
+-- and the map has it
+pub is_some_from_unsettled : (cells : BTreeMap ℕ Cell) (place : ℕ) → is_settled (cell_in cells place) ≡ false → is_some (get nat_cmp cells place) ≡ true
+is_some_from_unsettled cells place unsettled = elim (cases_Bool (is_some (get nat_cmp cells place))) [
+  | inl there ↦ there
+  | inr absent ↦
+      let blank : is_settled (cell_in cells place) ≡ true = ap (λ (o : Option Cell). is_settled (unwrap_or o blank_cell)) (none_from (get nat_cmp cells place) absent) in
+      absurd (cc (blank, unsettled))
+]
+
+pub IsListed-kept : (old new : BTreeMap ℕ Cell) (listed : List ℕ) → IsListed old listed → KeepsAll old new → IsListed new listed
+IsListed-kept old new listed was keeps place = ap (λ (c : Cell). is_settled c || list_any (nat_eq place) listed) (cell_from_get old new place (keeps place)) ∙ was place
+
+pub IsTable-hurt : (size : ℕ) (old new : BTreeMap ℕ Cell) (listed : List ℕ) (place : ℕ) (page : List ℕ) → IsTable size old listed → place < size → is_miss (cell_in old place) page ≡ true → ChangesOne old new place (hurt_cell (cell_in old place) page) → IsTable size new listed
+IsTable-hurt size old new listed place page was within miss change =
+    IsTable-changed size old new listed listed place (hurt_cell (cell_in old place) page) was within change (IsListed-changed old new listed place (hurt_cell (cell_in old place) page) was.all_listed change (λ holds. holds)) (ReadsAsMiss-hurt_cell (cell_in old place) page ((is_miss-Decides (cell_in old place) page).0 miss))
+
+pub IsTable-damaged : {E : Type 0} (result : Result (Unit {0}) E) (size : ℕ) (old new : BTreeMap ℕ Cell) (listed : List ℕ) (place : ℕ) (page : List ℕ) → IsTable size old listed → place < size → is_miss (cell_in old place) page ≡ true → OnOk result (ChangesOne old new place (hurt_cell (cell_in old place) page)) → OnErr result (KeepsAll old new) → IsTable size new listed
+IsTable-damaged (Ok done) size old new listed place page was within miss change keeps = IsTable-hurt size old new listed place page was within miss change
+IsTable-damaged (Err reason) size old new listed place page was within miss change keeps = IsTable-kept size old new listed listed was keeps (IsListed-kept old new listed was.all_listed keeps)
+
+pub IsTable-picked : (size : ℕ) (old new : BTreeMap ℕ Cell) (listed : List ℕ) (place index : ℕ) → IsTable size old listed → place < size → ChangesOne old new place (picked_cell index (cell_in old place)) → IsTable size new listed
+IsTable-picked size old new listed place index was within change =
+    IsTable-changed size old new listed listed place (picked_cell index (cell_in old place)) was within change (IsListed-changed old new listed place (picked_cell index (cell_in old place)) was.all_listed change (λ holds. is_settled-picked_cell index (cell_in old place))) (ReadsAsMiss-picked_cell index (cell_in old place) (was.misses place))

@@ -1,8 +1,9 @@
 // The places of a disk in memory, with what a crash asks of them.
-ghost use Rattle.std.specs.Prelude.{◌≡◌, ◌<◌, ◌≤◌, ◌==◌, ℕ, List, Some, None, false, nat_lt, is_some, length, option_copied, if◌then◌else◌, OnOk, OnErr};
+ghost use Rattle.std.specs.Prelude.{◌≡◌, ◌<◌, ◌≤◌, ◌==◌, ℕ, List, Some, None, true, false, nat_lt, is_some, length, option_copied, if◌then◌else◌, OnOk, OnErr};
 ghost use Rattle.std.specs.Ordering.{nat_cmp};
 ghost use Rattle.std.specs.BTreeMap.{get};
 ghost use Rattle.vb_disk.specs.Cells.{blank_cell, settled_cell, picked_cell, written_cell, hurt_cell, is_settled};
+ghost use Rattle.vb_disk.specs.Misses.{is_miss};
 ghost use Rattle.vb_disk.specs.Sparse.{cell_in, ChangesOne, IsTable, KeepsAll};
 
 use crate::{Cell, Side, cells};
@@ -66,5 +67,36 @@ impl Table {
     {
         cells::cut(&mut self.cells, blocks);
         self.size = blocks;
+    }
+
+    /// Makes a place read as this page. It may have none yet, and then takes memory.
+    pub(crate) fn damage(&mut self, place: u32, page: Page) -> Result<(), AllocError>
+        requires within { place < self.old.size }
+        requires miss { is_miss (cell_in self.old.cells place) page ≡ true }
+        ensures ok { OnOk result (ChangesOne self.old.cells self.new.cells place (hurt_cell (cell_in self.old.cells place) page)) }
+        ensures err { OnErr result (KeepsAll self.old.cells self.new.cells) }
+        ensures size { self.new.size ≡ self.old.size }
+    {
+        cells::hurt(&mut self.cells, self.alloc, place, page)
+    }
+
+    /// Makes a place with two candidates or more read as this page. It takes no memory.
+    pub(crate) fn tear(&mut self, place: u32, page: Page)
+        requires several { is_settled (cell_in self.old.cells place) ≡ false }
+        requires miss { is_miss (cell_in self.old.cells place) page ≡ true }
+        ensures changed { ChangesOne self.old.cells self.new.cells place (hurt_cell (cell_in self.old.cells place) page) }
+        ensures size { self.new.size ≡ self.old.size }
+    {
+        cells::tear(&mut self.cells, place, page);
+    }
+
+    /// Leaves the candidate at this position alone, where the place has more than one.
+    pub(crate) fn pick(&mut self, place: u32, index: usize)
+        requires within { place < self.old.size }
+        requires there { is_settled (cell_in self.old.cells place) ≡ false → index ≤ length (cell_in self.old.cells place).later }
+        ensures changed { ChangesOne self.old.cells self.new.cells place (picked_cell index (cell_in self.old.cells place)) }
+        ensures size { self.new.size ≡ self.old.size }
+    {
+        cells::pick(&mut self.cells, self.alloc, place, index);
     }
 }
