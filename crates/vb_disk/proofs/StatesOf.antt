@@ -4,8 +4,12 @@ use Rattle.std.specs.Ordering.{nat_cmp}
 use Rattle.std.specs.BTreeMap.{BTreeMap, get}
 use Rattle.vb_block.specs.Pages.{filled_page}
 use Rattle.vb_disk.specs.declared.cell.Cell.{Cell}
+use Rattle.vb_disk.specs.declared.crash.Pick.{Pick}
+use Rattle.vb_disk.specs.declared.crash.Side.{Side}
 use Rattle.vb_disk.specs.declared.crash.Side.TheVariants.{Last}
-use Rattle.vb_disk.specs.Cells.{blank_cell, read_of, written_cell, settled_cell}
+use Rattle.vb_disk.specs.declared.crash.Tear.{Tear}
+use Rattle.vb_disk.specs.Cells.{blank_cell, read_of, written_cell, settled_cell, hurt_cell}
+use Rattle.vb_disk.specs.Crashes.{crashed, damaged, pick_at, tear_at, with_pick, with_tear}
 use Rattle.vb_disk.specs.States.{DiskState, counted, written, synced, resized}
 use Rattle.vb_disk.specs.Sparse.{cell_in, state_from, ChangesOne, KeepsAll}
 use Rattle.vb_disk.proofs.Places.{cell_from_get, cell_in-changed}
@@ -46,3 +50,13 @@ read_of-known cells place cell is = ap (λ (o : Option Cell). read_of (unwrap_or
 
 pub read_of-unknown : (cells : BTreeMap ℕ Cell) (place : ℕ) → None ≡ get nat_cmp cells place → filled_page 0 ≡ read_of (cell_in cells place)
 read_of-unknown cells place is = ap (λ (o : Option Cell). read_of (unwrap_or o blank_cell)) is
+
+pub state_from-damaged : (size size' writes syncs place : ℕ) (page : List ℕ) (old new : BTreeMap ℕ Cell) → size' ≡ size → ChangesOne old new place (hurt_cell (cell_in old place) page) → state_from size' new writes syncs ≡ damaged (state_from size old writes syncs) place page
+state_from-damaged size size' writes syncs place page old new same change =
+    same_state (state_from size' new writes syncs) (damaged (state_from size old writes syncs) place page) same (cell_in-changed (λ cell. hurt_cell cell page) old new place change) refl refl
+
+-- a crash, step by step
+pub state_from-crashed : (size size' writes syncs : ℕ) (rest : Side) (picks : List Pick) (torn : List Tear) (old torn_cells picked_cells new : BTreeMap ℕ Cell) → size' ≡ size → ((place : ℕ) → cell_in torn_cells place ≡ with_tear (tear_at place torn) (cell_in old place)) → ((place : ℕ) → cell_in picked_cells place ≡ with_pick (pick_at place picks) (cell_in torn_cells place)) → ((place : ℕ) → cell_in new place ≡ settled_cell rest (cell_in picked_cells place)) → state_from size' new writes syncs ≡ crashed rest picks torn (state_from size old writes syncs)
+state_from-crashed size size' writes syncs rest picks torn old torn_cells picked_cells new same tears picked settled =
+    same_state (state_from size' new writes syncs) (crashed rest picks torn (state_from size old writes syncs)) same
+    (λ place. settled place ∙ ap (λ (cell : Cell). settled_cell rest cell) (picked place ∙ ap (λ (cell : Cell). with_pick (pick_at place picks) cell) (tears place))) refl refl

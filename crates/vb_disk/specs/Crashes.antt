@@ -42,6 +42,10 @@ abbrev pub pick_at : ℕ → List Pick → Option ℕ
 pick_at place [] = None
 pick_at place (p ∷ ps) = if p.place == place then Some p.index else pick_at place ps
 
+-- the page that a torn place reads as
+abbrev pub page_of : Tear → List ℕ
+page_of t = t.page
+
 -- the page of the first tear of a place
 abbrev pub tear_at : ℕ → List Tear → Option (List ℕ)
 tear_at place [] = None
@@ -67,20 +71,20 @@ abbrev pub crashed : Side → List Pick → List Tear → DiskState → DiskStat
 crashed rest picks torn d = record d { cells = λ place. crashed_cell rest picks torn place (d.cells place) }
 
 -- whether the candidate is there
-abbrev pub has_candidate : DiskState → Pick → Bool
-has_candidate d p = nat_lt p.place d.size && nat_lt p.index (length (candidates (d.cells p.place)))
+abbrev pub has_candidate : ℕ → (ℕ → Cell) → Pick → Bool
+has_candidate size cells p = nat_lt p.place size && nat_lt p.index (length (candidates (cells p.place)))
 
 -- why the picks are refused
-abbrev pub pick_refusal : DiskState → List Pick → Option CrashRefused
-pick_refusal d [] = None
-pick_refusal d (p ∷ ps) = if has_candidate d p then pick_refusal d ps else Some (NoSuchCandidate p.place)
+abbrev pub pick_refusal : ℕ → (ℕ → Cell) → List Pick → Option CrashRefused
+pick_refusal size cells [] = None
+pick_refusal size cells (p ∷ ps) = if has_candidate size cells p then pick_refusal size cells ps else Some (NoSuchCandidate p.place)
 
 -- why the tears are refused
-abbrev pub tear_refusal : DiskState → List Tear → Option CrashRefused
-tear_refusal d [] = None
-tear_refusal d (t ∷ ts) =
-    if is_settled (d.cells t.place) then Some (NotOpen t.place) else
-    (if is_miss (d.cells t.place) t.page then tear_refusal d ts else Some (NotAMiss t.place))
+abbrev pub tear_refusal : (ℕ → Cell) → List Tear → Option CrashRefused
+tear_refusal cells [] = None
+tear_refusal cells (t ∷ ts) =
+    if is_settled (cells t.place) then Some (NotOpen t.place) else
+    (if is_miss (cells t.place) t.page then tear_refusal cells ts else Some (NotAMiss t.place))
 
 -- the one reason, and else the other
 abbrev pub or_reason : Option CrashRefused → Option CrashRefused → Option CrashRefused
@@ -89,7 +93,7 @@ or_reason (Some reason) other = Some reason
 
 -- why a crash is refused: the first reason of the picks in order, and then of the tears
 abbrev pub crash_refusal : DiskState → List Pick → List Tear → Option CrashRefused
-crash_refusal d picks torn = or_reason (pick_refusal d picks) (tear_refusal d torn)
+crash_refusal d picks torn = or_reason (pick_refusal d.size d.cells picks) (tear_refusal d.cells torn)
 
 -- the answer is the reason where there is one, unless memory ran out
 abbrev pub AnswersCrash : Option CrashRefused → Result (Unit {0}) CrashRefused → Type 0

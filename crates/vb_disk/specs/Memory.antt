@@ -5,12 +5,12 @@ use Rattle.vb_disk.specs.declared.disk_error.DiskError.TheVariants.{Failed}
 use Rattle.vb_disk.specs.declared.failures.Failure.{Failure}
 use Rattle.vb_disk.specs.declared.memory_disk.MemoryDisk.{MemoryDisk}
 use Rattle.vb_disk.specs.Failing.{due_of, passed}
-use Rattle.vb_disk.specs.Sparse.{cell_in}
+use Rattle.vb_disk.specs.Sparse.{state_from}
 use Rattle.vb_disk.specs.States.{DiskState, counted}
 
 -- the told state
 abbrev pub state_of : MemoryDisk → DiskState
-state_of m = record { size = m.table.size; cells = λ place. cell_in m.table.cells place; writes = m.writes; syncs = m.syncs }
+state_of m = state_from m.table.size m.table.cells m.writes m.syncs
 
 -- the calls that are to fail. A failure says whether a write is made all the same.
 abbrev pub failures_of : MemoryDisk → List (Failure Bool)

@@ -36,6 +36,10 @@ pub record IsTable (size : ℕ) (cells : BTreeMap ℕ Cell) (listed : List ℕ) 
   pub all_listed : IsListed cells listed
   pub misses : (place : ℕ) (bytes : List ℕ) → (cell_in cells place).hurt ≡ Some bytes → IsMiss (cell_in cells place) bytes
 
+-- what stands at each place
+abbrev pub cells_of : BTreeMap ℕ Cell → ℕ → Cell
+cells_of cells = λ place. cell_in cells place
+
 -- the state of a disk with these places
 abbrev pub state_from : ℕ → BTreeMap ℕ Cell → ℕ → ℕ → DiskState
-state_from size cells writes syncs = record { size = size; cells = λ place. cell_in cells place; writes = writes; syncs = syncs }
+state_from size cells writes syncs = record { size = size; cells = cells_of cells; writes = writes; syncs = syncs }

@@ -3,7 +3,7 @@ ghost use Rattle.std.specs.Prelude.{◌≡◌, nat_lt, length, unwrap_or, option
 ghost use Rattle.vb_disk.specs.Cells.{blank_cell, candidates};
 ghost use Rattle.vb_disk.specs.Crashes.{pick_refusal, tear_refusal, AnswersCrash};
 ghost use Rattle.vb_disk.specs.Misses.{is_miss};
-ghost use Rattle.vb_disk.specs.Sparse.{cell_in, state_from};
+ghost use Rattle.vb_disk.specs.Sparse.{cell_in, cells_of};
 
 use crate::misses::is_miss;
 use crate::table::Table;
@@ -13,7 +13,7 @@ use vb_block::Page;
 
 /// Refuses the first pick of a candidate that isn't there.
 pub(crate) fn check_picks(table: &Table, picks: &[Pick]) -> Result<(), CrashRefused>
-    ensures { AnswersCrash (pick_refusal (state_from table.now.size table.now.cells 0 0) picks.now) result }
+    ensures { AnswersCrash (pick_refusal table.now.size (cells_of table.now.cells) picks.now) result }
 {
     for pick in picks {
         if pick.place >= table.size || !has_candidate(table.cell(pick.place), pick.index) {
@@ -25,7 +25,7 @@ pub(crate) fn check_picks(table: &Table, picks: &[Pick]) -> Result<(), CrashRefu
 
 /// Refuses the first tear of a place that can't be torn so.
 pub(crate) fn check_tears(table: &Table, torn: &[Tear]) -> Result<(), CrashRefused>
-    ensures { AnswersCrash (tear_refusal (state_from table.now.size table.now.cells 0 0) torn.now) result }
+    ensures { AnswersCrash (tear_refusal (cells_of table.now.cells) torn.now) result }
 {
     for tear in torn {
         match table.cell(tear.place) {

@@ -5,20 +5,21 @@ mod cell;
 mod cells;
 mod crash;
 mod crash_checks;
+mod crashing;
 mod disk;
 mod disk_error;
 mod failures;
 mod memory_calls;
+mod memory_crash;
 mod memory_disk;
 mod misses;
 mod moments;
-
 mod table;
 
 pub use cell::Cell;
+pub use crash::{CrashRefused, DamageRefused, MissRefused, Pick, Side, Tear};
 pub use disk::Disk;
 pub use disk_error::DiskError;
 pub use failures::{Failure, Failures};
 pub use memory_disk::MemoryDisk;
 pub use moments::{no_call, no_sync, one_call};
-pub use crash::{CrashRefused, DamageRefused, MissRefused, Pick, Side, Tear};
