@@ -9,8 +9,10 @@ use Rattle.vb_disk.specs.declared.crash.CrashRefused.{CrashRefused}
 use Rattle.vb_disk.specs.declared.crash.CrashRefused.TheVariants.{NoSuchCandidate, NotOpen, NotAMiss, Memory}
 use Rattle.vb_disk.specs.declared.crash.DamageRefused.{DamageRefused}
 use Rattle.vb_disk.specs.declared.crash.DamageRefused.TheVariants.{NoSuchPlace, NotAMiss as NoMissThere, Memory as NoMemoryFound}
+use Rattle.vb_disk.specs.declared.crash.MissRefused.{MissRefused}
+use Rattle.vb_disk.specs.declared.crash.MissRefused.TheVariants.{NoSuchPlace as NoPlaceThere, AllTaken, Memory as NoMemoryLeft}
 use Rattle.vb_disk.specs.Cells.{candidates, is_settled, settled_cell, picked_cell, hurt_cell}
-use Rattle.vb_disk.specs.Misses.{IsMiss, is_miss}
+use Rattle.vb_disk.specs.Misses.{IsAllTaken, IsFirstMiss, IsMiss, is_miss}
 use Rattle.vb_disk.specs.States.{DiskState}
 
 -- ---- what any crash may leave
@@ -117,3 +119,12 @@ abbrev pub AnswersDamage : Option DamageRefused → Result (Unit {0}) DamageRefu
 AnswersDamage refusal (Ok done) = refusal ≡ None
 AnswersDamage refusal (Err NoMemoryFound) = Unit {0}
 AnswersDamage refusal (Err reason) = refusal ≡ Some reason
+
+-- ---- a page that is a miss
+
+-- the answer is the first miss, or says truly why there is none, unless memory ran out
+abbrev pub AnswersMiss : DiskState → ℕ → Result (List ℕ) MissRefused → Type 0
+AnswersMiss d place (Ok page) = (place < d.size) × IsFirstMiss (d.cells place) page
+AnswersMiss d place (Err (NoPlaceThere named)) = (named ≡ place) × (d.size ≤ place)
+AnswersMiss d place (Err (AllTaken named)) = (named ≡ place) × (place < d.size) × IsAllTaken (d.cells place)
+AnswersMiss d place (Err NoMemoryLeft) = Unit {0}

@@ -1,11 +1,12 @@
 // Which crashes and which damage are refused.
 ghost use Rattle.std.specs.Prelude.{◌≡◌, nat_lt, length, unwrap_or, option_copied, IfOk};
+ghost use Rattle.std.specs.Bool.{OnTrue, OnFalse};
 ghost use Rattle.vb_disk.specs.Cells.{blank_cell, candidates};
 ghost use Rattle.vb_disk.specs.Crashes.{pick_refusal, tear_refusal, AnswersCrash};
-ghost use Rattle.vb_disk.specs.Misses.{is_miss};
+ghost use Rattle.vb_disk.specs.Misses.{is_miss, IsAllTaken, IsFirstMiss};
 ghost use Rattle.vb_disk.specs.Sparse.{cell_in, cells_of};
 
-use crate::misses::is_miss;
+use crate::misses::{first_miss, is_miss};
 use crate::table::Table;
 use crate::{Cell, CrashRefused, Pick, Tear};
 use std::alloc::AllocError;
@@ -47,6 +48,17 @@ pub(crate) fn is_miss_at(table: &Table, place: u32, page: &Page) -> Result<bool,
     match table.cell(place) {
         Some(cell) => Ok(is_miss(cell, page)),
         None => Ok(is_miss(&Cell::blank(table.alloc)?, page)),
+    }
+}
+
+/// Makes the page the first miss of equal bytes at a place, and says whether there is one.
+pub(crate) fn first_miss_at(table: &Table, place: u32, page: &mut Page) -> Result<bool, AllocError>
+    ensures found { IfOk result (λ found. OnTrue found (IsFirstMiss (cell_in table.now.cells place) page.new)) }
+    ensures none { IfOk result (λ found. OnFalse found (IsAllTaken (cell_in table.now.cells place))) }
+{
+    match table.cell(place) {
+        Some(cell) => Ok(first_miss(cell, page)),
+        None => Ok(first_miss(&Cell::blank(table.alloc)?, page)),
     }
 }
 

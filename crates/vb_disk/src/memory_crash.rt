@@ -1,12 +1,12 @@
 // What is done to a disk in memory from outside: crashes and silent damage.
-use crate::crash_checks::{check_picks, check_tears, is_miss_at};
+use crate::crash_checks::{check_picks, check_tears, first_miss_at, is_miss_at};
 use crate::crashing::{copies, pick_all, tear_all};
-use crate::{CrashRefused, DamageRefused, MemoryDisk, Pick, Side, Tear};
+use crate::{CrashRefused, DamageRefused, MemoryDisk, MissRefused, Pick, Side, Tear};
 use vb_block::Page;
 
 impl MemoryDisk {
     ghost use Rattle.std.specs.Prelude.{◌≡◌, [], OnOk, OnErr};
-    ghost use Rattle.vb_disk.specs.Crashes.{crashed, crash_refusal, damaged, damage_refusal, AnswersCrash, AnswersDamage, MayCrashTo};
+    ghost use Rattle.vb_disk.specs.Crashes.{crashed, crash_refusal, damaged, damage_refusal, AnswersCrash, AnswersDamage, AnswersMiss, MayCrashTo};
     ghost use Rattle.vb_disk.specs.Memory.{state_of, failures_of, faults_of, IsUntouched};
 
     /// Crashes: each place keeps the candidate of its first pick, or else the oldest or newest one, and reads as
@@ -47,5 +47,20 @@ impl MemoryDisk {
         }
         self.table.damage(place, page)?;
         Ok(())
+    }
+
+    /// The page of 4,096 equal bytes that is a miss at a place: of byte 0xEE, or else of the next one downwards.
+    pub fn miss(&self, place: u32) -> Result<Page, MissRefused>
+        ensures { AnswersMiss (state_of self.now) place result }
+    {
+        if place >= self.table.size {
+            return Err(MissRefused::NoSuchPlace { place });
+        }
+        let mut page = Page::zero(self.table.alloc)?;
+        if first_miss_at(&self.table, place, &mut page)? {
+            Ok(page)
+        } else {
+            Err(MissRefused::AllTaken { place })
+        }
     }
 }
