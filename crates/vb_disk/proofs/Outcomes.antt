@@ -1,5 +1,5 @@
 -- What a crash that was told what to leave leaves is one of the outcomes of a crash.
-use Rattle.std.proofs.Common.{◌≡◌, ℕ, zero, suc, ◌<◌, ◌≤◌, Bool, true, false, cond, eqb, List, [], ◌∷◌, length, get_or, Option, Some, None, refl, sym, ap, subst, ◌∙◌, ◌⊎◌, inl, inr, arith}
+use Rattle.std.proofs.Common.{◌≡◌, ℕ, Bool, true, false, cond, eqb, List, [], ◌∷◌, length, Option, Some, None, refl, sym, ap, subst, ◌∙◌, ◌⊎◌, inl, inr, arith}
 use Rattle.std.specs.List.{Contains}
 use Rattle.std.proofs.lemmas.Bool.{cases_lt, eqb-true, eqb-false}
 use Rattle.std.proofs.lemmas.List.{get_or_past}
@@ -9,8 +9,8 @@ use Rattle.vb_disk.specs.declared.crash.Side.TheVariants.{First, Last}
 use Rattle.vb_disk.specs.declared.crash.Pick.{Pick}
 use Rattle.vb_disk.specs.declared.crash.Tear.{Tear}
 use Rattle.vb_disk.specs.declared.crash.CrashRefused.{CrashRefused}
-use Rattle.vb_disk.specs.Cells.{candidates, candidate_at, is_settled, kept_cell, settled_cell, side_index, picked_cell, hurt_cell}
-use Rattle.vb_disk.specs.Crashes.{CellMayCrashTo, IsTorn, MayCrashTo, crash_refusal, crashed, crashed_cell, or_reason, pick_at, pick_refusal, tear_at, tear_refusal, with_pick, with_tear}
+use Rattle.vb_disk.specs.Cells.{candidates, candidate_at, is_settled, kept_cell, settled_cell, side_index, hurt_cell}
+use Rattle.vb_disk.specs.Crashes.{IsTorn, MayCrashTo, crash_refusal, crashed, or_reason, pick_at, pick_refusal, tear_at, tear_refusal, with_pick, with_tear}
 use Rattle.vb_disk.specs.Misses.{is_miss}
 use Rattle.vb_disk.specs.States.{DiskState}
 use Rattle.vb_disk.proofs.StepsOfCrashes.{get_or-any, tear_head}

@@ -1,9 +1,9 @@
 -- What the counts of calls say about the moments between two states, and how clients show that each moment has P.
-use Rattle.std.proofs.Common.{◌≡◌, ℕ, ◌+◌, ◌<◌, ◌≤◌, Bool, true, false, cond, eqb, List, [], ◌∷◌, ◌++◌, length, None, refl, sym, ap, subst, ◌∙◌, ◌⊎◌, inl, inr, arith, append_assoc, length-append}
+use Rattle.std.proofs.Common.{◌≡◌, ℕ, ◌+◌, ◌≤◌, Bool, true, false, cond, eqb, List, [], ◌∷◌, ◌++◌, length, refl, sym, ap, subst, ◌∙◌, ◌⊎◌, inl, inr, arith, append_assoc}
 use Rattle.vb_disk.specs.declared.cell.Cell.{Cell}
 use Rattle.vb_disk.specs.Cells.{written_cell}
 use Rattle.vb_disk.specs.States.{DiskState, DiskCall, Write, Sync, Resize, after_call, after_calls, written, synced, resized}
-use Rattle.vb_disk.specs.Moments.{Reaches, IsMoment, CountsStand, EachMoment, HasMore, OnlyWrites}
+use Rattle.vb_disk.specs.Moments.{Reaches, IsMoment, CountsStand, HasMore, OnlyWrites}
 
 -- how many calls were made
 abbrev pub work : DiskState → ℕ

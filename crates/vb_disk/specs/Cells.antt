@@ -1,5 +1,5 @@
 -- One place of a disk: its candidates, what it reads as, and what the calls make of it.
-use Rattle.std.specs.Prelude.{ℕ, Bool, ◌==◌, if◌then◌else◌, List, [], ◌∷◌, ◌++◌, length, get_or, Option, Some, None, unwrap_or}
+use Rattle.std.specs.Prelude.{ℕ, Bool, ◌==◌, if◌then◌else◌, List, [], ◌∷◌, ◌++◌, length, get_or, Some, None, unwrap_or}
 use Rattle.vb_block.specs.Pages.{zero_page}
 use Rattle.vb_disk.specs.declared.cell.Cell.{Cell}
 use Rattle.vb_disk.specs.declared.crash.Side.{Side}

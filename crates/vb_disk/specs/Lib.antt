@@ -3,7 +3,9 @@ pub mod Cells
 pub mod Misses
 pub mod Crashes
 pub mod Failing
+pub mod Logs
 pub mod Memory
+pub mod MemoryLogs
 pub mod Moments
 pub mod Sparse
 pub mod States

@@ -1,5 +1,5 @@
 -- What a disk in memory tells of itself, and which of its calls fail.
-use Rattle.std.specs.Prelude.{◌≡◌, ◌↔◌, ℕ, Bool, true, if◌then◌else◌, List, Option, Some, None, is_some, IsSome, Result, IsErrOf}
+use Rattle.std.specs.Prelude.{◌≡◌, ◌↔◌, ℕ, Bool, if◌then◌else◌, List, is_some, IsSome, Result, IsErrOf}
 use Rattle.vb_disk.specs.declared.disk_error.DiskError.{DiskError}
 use Rattle.vb_disk.specs.declared.disk_error.DiskError.TheVariants.{Failed}
 use Rattle.vb_disk.specs.declared.failures.Failure.{Failure}

@@ -1,5 +1,5 @@
 -- The moments between two states of a disk, at each of which a crash may come.
-use Rattle.std.specs.Prelude.{◌≡◌, ◌⊎◌, ℕ, ◌<◌, ◌≤◌, List, ◌∷◌, ◌++◌, Option, None}
+use Rattle.std.specs.Prelude.{◌≡◌, ◌⊎◌, ℕ, ◌<◌, ◌≤◌, List, ◌∷◌, ◌++◌, None}
 use Rattle.vb_cause.specs.Faults.{greatest_count}
 use Rattle.vb_disk.specs.declared.cell.Cell.{Cell}
 use Rattle.vb_disk.specs.States.{DiskState, DiskCall, after_calls}

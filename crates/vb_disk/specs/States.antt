@@ -1,7 +1,6 @@
 -- What a disk holds: the candidates of each of its places, and what its calls make of them.
-use Rattle.std.specs.Prelude.{◌≡◌, ℕ, ◌+◌, ◌≤◌, min, nat_lt, ◌==◌, if◌then◌else◌, List, [], ◌∷◌, ◌++◌, length, get_or, Option, Some, None, unwrap_or}
+use Rattle.std.specs.Prelude.{◌≡◌, ℕ, ◌+◌, ◌≤◌, min, nat_lt, ◌==◌, if◌then◌else◌, List, [], ◌∷◌, Some}
 use Rattle.vb_cause.specs.Faults.{greatest_count}
-use Rattle.vb_block.specs.Pages.{zero_page}
 use Rattle.vb_disk.specs.declared.cell.Cell.{Cell}
 use Rattle.vb_disk.specs.Misses.{IsMiss}
 use Rattle.vb_disk.specs.Cells.{blank_cell, read_of, written_cell, synced_cell}

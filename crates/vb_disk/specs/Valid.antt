@@ -1,12 +1,11 @@
 -- The told state of a disk in memory is one that a disk can have.
-use Rattle.std.proofs.Common.{◌≡◌, ℕ, ◌≤◌, false, Option, Some, None, is_some, unwrap_or, refl, sym, ap, subst, ◌∙◌}
+use Rattle.std.proofs.Common.{◌≡◌, false, Option, Some, None, is_some, unwrap_or, refl, ap, subst}
 use Rattle.std.specs.Ordering.{nat_cmp}
-use Rattle.std.specs.BTreeMap.{BTreeMap, get}
+use Rattle.std.specs.BTreeMap.{get}
 use Rattle.vb_disk.specs.declared.cell.Cell.{Cell}
 use Rattle.vb_disk.specs.declared.memory_disk.MemoryDisk.{MemoryDisk}
 use Rattle.vb_disk.specs.Cells.{blank_cell}
 use Rattle.vb_disk.specs.Memory.{state_of}
-use Rattle.vb_disk.specs.Sparse.{cell_in}
 use Rattle.vb_disk.specs.States.{DiskState, IsDiskState}
 
 none_from : {T : Type 0} (o : Option T) → is_some o ≡ false → o ≡ None

@@ -27,7 +27,7 @@ pub trait Disk {
         ensures told { told self.new ≡ told self.old }
         ensures seen { IfOk result (λ blocks. seen self.new ≡ blocks) }
         ensures unseen { OnErr result (seen self.new ≡ seen self.old) }
-        ensures cause { HasCause (faults self.old) (faults self.new) result }
+        ensures cause { HasCause DiskError.Failed (faults self.old) (faults self.new) result }
         ensures no_memory { IsErrOf result DiskError.Memory → ⊥ };
 
     /// Reads a place. After an error `into` is some page.
@@ -36,7 +36,7 @@ pub trait Disk {
         ensures read { (d : DiskState) → told self.old ≡ Some d → OnOk result (into.new ≡ read_at d place) }
         ensures told { told self.new ≡ told self.old }
         ensures seen { seen self.new ≡ seen self.old }
-        ensures cause { HasCause (faults self.old) (faults self.new) result }
+        ensures cause { HasCause DiskError.Failed (faults self.old) (faults self.new) result }
         ensures no_memory { IsErrOf result DiskError.Memory → ⊥ };
 
     /// Adds a candidate to a place, and makes it whole. A crash may yet leave an older candidate.
@@ -50,7 +50,7 @@ pub trait Disk {
         ensures memory { IsErrOf result DiskError.Memory → told self.new ≡ told self.old }
         ensures untold { told self.old ≡ None → told self.new ≡ None }
         ensures seen { seen self.new ≡ seen self.old }
-        ensures cause { HasCause (faults self.old) (faults self.new) result };
+        ensures cause { HasCause DiskError.Failed (faults self.old) (faults self.new) result };
 
     /// Leaves the newest candidate of each place alone.
     fn sync(&mut self) -> Result<(), DiskError>
@@ -58,7 +58,7 @@ pub trait Disk {
         ensures err { OnErr result (told self.new ≡ told self.old) }
         ensures untold { told self.old ≡ None → told self.new ≡ None }
         ensures seen { seen self.new ≡ seen self.old }
-        ensures cause { HasCause (faults self.old) (faults self.new) result }
+        ensures cause { HasCause DiskError.Failed (faults self.old) (faults self.new) result }
         ensures no_memory { IsErrOf result DiskError.Memory → ⊥ };
 
     /// Makes the disk this long, in one step: it adds places of zeros, or takes the last ones away.
@@ -68,7 +68,7 @@ pub trait Disk {
         ensures untold { told self.old ≡ None → told self.new ≡ None }
         ensures seen { OnOk result (seen self.new ≡ blocks) }
         ensures unseen { OnErr result (seen self.new ≡ seen self.old) }
-        ensures cause { HasCause (faults self.old) (faults self.new) result };
+        ensures cause { HasCause DiskError.Failed (faults self.old) (faults self.new) result };
 
     /// A told state is one that a disk can have: past its size there is nothing, and what a hurt place reads as
     /// is none of its candidates.

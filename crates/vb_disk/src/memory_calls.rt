@@ -21,7 +21,7 @@ impl Disk for MemoryDisk {
     fn size(&mut self) -> Result<u32, DiskError>
         ensures blocks { IfOk result (λ blocks. blocks ≡ (state_of self.old).size) }
         ensures state { state_of self.new ≡ state_of self.old }
-        ensures cause { HasCause (faults_of self.old) (faults_of self.new) result }
+        ensures cause { HasCause DiskError.Failed (faults_of self.old) (faults_of self.new) result }
         ensures listed { FailsAsListed self.old self.new result }
         ensures never_memory { IsErrOf result DiskError.Memory → ⊥ }
     {
@@ -33,7 +33,7 @@ impl Disk for MemoryDisk {
         requires { place < (state_of self.old).size }
         ensures bytes { OnOk result (into.new ≡ read_at (state_of self.old) place) }
         ensures state { state_of self.new ≡ state_of self.old }
-        ensures cause { HasCause (faults_of self.old) (faults_of self.new) result }
+        ensures cause { HasCause DiskError.Failed (faults_of self.old) (faults_of self.new) result }
         ensures listed { FailsAsListed self.old self.new result }
         ensures never_memory { IsErrOf result DiskError.Memory → ⊥ }
     {
@@ -51,7 +51,7 @@ impl Disk for MemoryDisk {
         // It is made where it doesn't fail, or is listed to fail after it was made.
         ensures made { UnlessMemory result (state_of self.new
             ≡ (if is_made (due_of (failures_of self.old)) then written (state_of self.old) place page.now else state_of self.old)) }
-        ensures cause { HasCause (faults_of self.old) (faults_of self.new) result }
+        ensures cause { HasCause DiskError.Failed (faults_of self.old) (faults_of self.new) result }
         ensures listed { UnlessMemory result (FailsAsListed self.old self.new result) }
         ensures untouched { IsErrOf result DiskError.Memory → IsUntouched self.old self.new }
     {
@@ -65,7 +65,7 @@ impl Disk for MemoryDisk {
     fn sync(&mut self) -> Result<(), DiskError>
         ensures done { OnOk result (state_of self.new ≡ synced (state_of self.old)) }
         ensures kept { OnErr result (state_of self.new ≡ state_of self.old) }
-        ensures cause { HasCause (faults_of self.old) (faults_of self.new) result }
+        ensures cause { HasCause DiskError.Failed (faults_of self.old) (faults_of self.new) result }
         ensures listed { FailsAsListed self.old self.new result }
         ensures never_memory { IsErrOf result DiskError.Memory → ⊥ }
     {
@@ -78,7 +78,7 @@ impl Disk for MemoryDisk {
     fn resize(&mut self, blocks: u32) -> Result<(), DiskError>
         ensures done { OnOk result (state_of self.new ≡ resized (state_of self.old) blocks) }
         ensures kept { OnErr result (state_of self.new ≡ state_of self.old) }
-        ensures cause { HasCause (faults_of self.old) (faults_of self.new) result }
+        ensures cause { HasCause DiskError.Failed (faults_of self.old) (faults_of self.new) result }
         ensures listed { FailsAsListed self.old self.new result }
         ensures never_memory { IsErrOf result DiskError.Memory → ⊥ }
     {

@@ -71,7 +71,7 @@ impl MemoryDisk {
 
     // Lets one call pass, which fails where it is listed.
     pub(crate) fn pass(&mut self) -> Result<(), DiskError>
-        ensures cause { HasCause (faults_of self.old) (faults_of self.new) result }
+        ensures cause { HasCause DiskError.Failed (faults_of self.old) (faults_of self.new) result }
         ensures listed { FailsAsListed self.old self.new result }
         ensures state { state_of self.new ≡ state_of self.old }
         ensures no_memory { IsErrOf result DiskError.Memory → ⊥ }

@@ -1,5 +1,5 @@
 use Rattle.std.proofs.Common.{◌∙◌}
-use Rattle.vb_disk.proofs.StepsOfCrashes.{PickStep, pick_step}
+use Rattle.vb_disk.proofs.StepsOfCrashes.{pick_step}
 use Rattle.vb_disk.proofs.crashing.pick_all.Goals as goal
 
 pub pick-requires-clause-within : goal.pick-requires-clause-within

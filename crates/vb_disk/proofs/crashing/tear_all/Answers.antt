@@ -1,5 +1,5 @@
 use Rattle.std.proofs.Common.{◌≡◌, length, rules, ◌∙◌}
-use Rattle.vb_disk.proofs.StepsOfCrashes.{TearStep, tear_step}
+use Rattle.vb_disk.proofs.StepsOfCrashes.{tear_step}
 use Rattle.vb_disk.proofs.crashing.tear_all.Goals as goal
 
 pub tear-requires-clause-several : goal.tear-requires-clause-several

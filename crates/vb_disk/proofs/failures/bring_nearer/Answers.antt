@@ -1,6 +1,5 @@
 use Rattle.std.proofs.Common.{set, ℕ, ap, arith, ◌∙◌, ◌<◌, length}
 use Rattle.std.proofs.lemmas.List.Edits.{map_over_more}
-use Rattle.vb_disk.specs.declared.failures.Failure.{Failure}
 use Rattle.vb_disk.specs.Failing.{nearer}
 use Rattle.vb_disk.proofs.failures.bring_nearer.Goals as goal
 

@@ -1,4 +1,4 @@
-use Rattle.vb_disk.proofs.Places.{IsTable-cut, cell_in-cut}
+use Rattle.vb_disk.proofs.Places.{IsTable-cut}
 use Rattle.vb_disk.proofs.table.Table.resize.Goals as goal
 
 pub invariant_of-self : goal.invariant_of-self
