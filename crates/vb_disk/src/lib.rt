@@ -27,3 +27,6 @@ pub use log_file::{LogError, LogFile};
 pub use memory_disk::MemoryDisk;
 pub use memory_log::MemoryLog;
 pub use moments::{no_call, no_sync, one_call};
+
+#[cfg(test)]
+mod tests;

@@ -54,6 +54,7 @@ impl Disk for MemoryDisk {
         ensures cause { HasCause DiskError.Failed (faults_of self.old) (faults_of self.new) result }
         ensures listed { UnlessMemory result (FailsAsListed self.old self.new result) }
         ensures untouched { IsErrOf result DiskError.Memory → IsUntouched self.old self.new }
+        ensures size { (state_of self.new).size ≡ (state_of self.old).size }
     {
         match self.fails.due() {
             Some(false) => {}
