@@ -3,7 +3,7 @@ use Rattle.std.proofs.Common.{◌≡◌, ℕ, ◌+◌, ◌≤◌, Bool, true, fa
 use Rattle.vb_disk.specs.declared.cell.Cell.{Cell}
 use Rattle.vb_disk.specs.Cells.{written_cell}
 use Rattle.vb_disk.specs.States.{DiskState, DiskCall, Write, Sync, Resize, after_call, after_calls, written, synced, resized}
-use Rattle.vb_disk.specs.Moments.{Reaches, IsMoment, CountsStand, HasMore, OnlyWrites}
+use Rattle.vb_disk.specs.Moments.{EachMoment, Reaches, IsMoment, CountsStand, HasMore, OnlyWrites}
 
 -- how many calls were made
 abbrev pub work : DiskState → ℕ
@@ -137,3 +137,57 @@ moment_by_writes old new d stand moment same =
       OnlyWrites-Reaches old d back.stood moment.before (omega arith),
       OnlyWrites-Reaches d new stand moment.after (omega arith),
     )
+
+-- ---- for clients: how to show that each moment has P
+
+pub Reaches-refl : (d : DiskState) → Reaches d d
+Reaches-refl d = ([], refl)
+
+pub Reaches-call : (d : DiskState) (call : DiskCall) → Reaches d (after_call d call)
+Reaches-call d call = (call ∷ [], refl)
+
+after_calls-append : (d : DiskState) (before after : List DiskCall) → after_calls d (before ++ after) ≡ after_calls (after_calls d before) after
+after_calls-append d [] after = refl
+after_calls-append d (call ∷ before) after = after_calls-append (after_call d call) before after
+
+pub Reaches-trans : (a b c : DiskState) → Reaches a b → Reaches b c → Reaches a c
+Reaches-trans a b c x y =
+    (x.0 ++ y.0, after_calls-append a x.0 y.0 ∙ ap (λ (d : DiskState). after_calls d y.0) x.1 ∙ y.1)
+
+-- no call, or a call that was not made
+pub EachMoment-none : (P : DiskState → Type 0) (old : DiskState) → P old → EachMoment P old old
+EachMoment-none P old here = record {
+  reached = Reaches-refl old;
+  each = λ d stand moment. subst P (sym (moment_of_none old d stand moment)) here;
+}
+
+-- one call
+pub EachMoment-call : (P : DiskState → Type 0) (old : DiskState) (call : DiskCall) → P old → P (after_call old call) → EachMoment P old (after_call old call)
+EachMoment-call P old call before after = record {
+  reached = Reaches-call old call;
+  each = λ d stand moment. elim (moment_of_one old d call stand moment) [
+    | inl same ↦ subst P (sym same) before
+    | inr same ↦ subst P (sym same) after
+  ];
+}
+
+-- a call that was made or wasn't
+pub EachMoment-tried : (P : DiskState → Type 0) (old new : DiskState) (call : DiskCall) → (new ≡ old) ⊎ (new ≡ after_call old call) → P old → P new → EachMoment P old new
+EachMoment-tried P old new call (inl same) before after = subst (EachMoment P old) (sym same) (EachMoment-none P old before)
+EachMoment-tried P old new call (inr same) before after = subst (EachMoment P old) (sym same) (EachMoment-call P old call before (subst P same after))
+
+-- calls without a sync, whatever lies between the two states by writes alone
+pub EachMoment-writes : (P : DiskState → Type 0) (old new : DiskState) → Reaches old new → new.syncs ≡ old.syncs → ((d : DiskState) → OnlyWrites old d → OnlyWrites d new → P d) → EachMoment P old new
+EachMoment-writes P old new reached same between = record {
+  reached = reached;
+  each = λ d stand moment.
+    let parts = moment_by_writes old new d stand moment same in
+    between d parts.0 parts.1;
+}
+
+-- what each moment has, each moment has that follows from it
+pub EachMoment-weaker : (P Q : DiskState → Type 0) (old new : DiskState) → ((d : DiskState) → P d → Q d) → EachMoment P old new → EachMoment Q old new
+EachMoment-weaker P Q old new goes each = record {
+  reached = each.reached;
+  each = λ d stand moment. goes d (each.each d stand moment);
+}
