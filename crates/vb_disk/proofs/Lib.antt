@@ -1,0 +1,6 @@
+pub mod Outcomes
+pub mod Places
+pub mod StatesOf
+pub mod StepsOfCrashes
+pub mod TestsOfMisses
+pub mod Ways

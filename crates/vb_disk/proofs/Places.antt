@@ -1,0 +1,169 @@
+-- How the map of places changes, and that what a table keeps is kept.
+use Rattle.std.proofs.Common.{◌≡◌, ◌≢◌, ℕ, ◌<◌, Bool, true, false, cond, ◌||◌, eqb, ltb, nat_eq, List, [], length, Option, Some, None, Result, Ok, Err, OnOk, OnErr, is_some, unwrap_or, refl, sym, ap, subst, ◌∙◌, inl, inr, arith}
+use Rattle.std.specs.List.{list_any, All}
+use Rattle.std.specs.Ordering.{nat_cmp}
+use Rattle.std.specs.BTreeMap.{BTreeMap, get}
+use Rattle.std.proofs.lemmas.Bool.{cases_eq, cases_lt, cases_Bool, cond-true, cond-false, eq-eqb, ne_eqb, lt-ltb, le-ltb, or_cases, or_left, or_right}
+use Rattle.std.proofs.lemmas.List.{get_or_past}
+use Rattle.std.proofs.lemmas.List.Elements.{All-nil, All-cons}
+use Rattle.sha2.specs.Sha256.{sha256}
+use Rattle.vb_disk.specs.declared.cell.Cell.{Cell}
+use Rattle.vb_disk.specs.declared.crash.Side.{Side}
+use Rattle.vb_disk.specs.Cells.{blank_cell, candidates, candidate_at, kept_cell, settled_cell, picked_cell, hurt_cell, side_index, is_settled}
+use Rattle.vb_disk.specs.Misses.{IsMiss, is_miss}
+use Rattle.vb_disk.specs.Sparse.{cell_in, ChangesOne, KeepsAll, IsListed, IsTable}
+use Rattle.vb_disk.proofs.TestsOfMisses.{is_miss-Decides}
+
+-- what the map has at a place says what stands there
+pub cell_from_get : (old new : BTreeMap ℕ Cell) (place : ℕ) → get nat_cmp new place ≡ get nat_cmp old place → cell_in new place ≡ cell_in old place
+cell_from_get old new place same = ap (λ (o : Option Cell). unwrap_or o blank_cell) same
+
+-- one place changed by a function of what stood there
+pub cell_in-changed : (f : Cell → Cell) (old new : BTreeMap ℕ Cell) (place : ℕ) → ChangesOne old new place (f (cell_in old place)) → (other : ℕ) → cell_in new other ≡ cond (eqb other place) (f (cell_in old other)) (cell_in old other)
+cell_in-changed f old new place change other = elim (cases_eq other place) [
+  | inl same ↦
+      let Q : ℕ → Type 0 = λ n. cell_in new n ≡ cond (eqb n place) (f (cell_in old n)) (cell_in old n) in
+      subst Q (sym same) (change.here ∙ sym (cond-true (eqb place place) (f (cell_in old place)) (cell_in old place) (eq-eqb place place refl)))
+  | inr apart ↦ cell_from_get old new other (change.others other apart) ∙ sym (cond-false (eqb other place) (f (cell_in old other)) (cell_in old other) (ne_eqb other place apart))
+]
+
+-- the candidate at any position has what all candidates have
+candidate_has : (P : List ℕ → Type 0) (cell : Cell) (i : ℕ) → All P (candidates cell) → P (candidate_at cell i)
+candidate_has P cell i all = elim (cases_lt i (length (candidates cell))) [
+  | inl within ↦ all i cell.first within
+  | inr past ↦ subst P (sym (get_or_past (candidates cell) i cell.first past)) (all 0 cell.first (omega arith))
+]
+
+-- what is a miss among all candidates is one at each of them alone
+pub IsMiss-kept_cell : (cell : Cell) (i : ℕ) (bytes : List ℕ) → IsMiss cell bytes → IsMiss (kept_cell cell i) bytes
+IsMiss-kept_cell cell i bytes miss =
+    let Q : List ℕ → Type 0 = λ candidate. sha256 candidate ≢ sha256 bytes in
+    record { unsealed = miss.unsealed; unlike = All-cons Q (candidate_at cell i) [] (candidate_has Q cell i miss.unlike) (All-nil Q) }
+
+-- a hurt cell reads as a miss
+abbrev pub ReadsAsMiss : Cell → Type 0
+ReadsAsMiss cell = (bytes : List ℕ) → cell.hurt ≡ Some bytes → IsMiss cell bytes
+
+pub ReadsAsMiss-kept_cell : (cell : Cell) (i : ℕ) → ReadsAsMiss cell → ReadsAsMiss (kept_cell cell i)
+ReadsAsMiss-kept_cell cell i reads bytes hurt = IsMiss-kept_cell cell i bytes (reads bytes hurt)
+
+-- ---- the list of places with more than one candidate
+
+listed_or : (a b l : Bool) → (a ≡ true → b ≡ true) → (a || l) ≡ true → (b || l) ≡ true
+listed_or a b l goes was = elim (or_cases a l was) [ inl holds ↦ or_left b l (goes holds) | inr holds ↦ or_right b l holds ]
+
+pub IsListed-changed : (old new : BTreeMap ℕ Cell) (listed : List ℕ) (place : ℕ) (cell : Cell) → IsListed old listed → ChangesOne old new place cell → (is_settled (cell_in old place) ≡ true → is_settled cell ≡ true) → IsListed new listed
+IsListed-changed old new listed place cell was change goes other = elim (cases_eq other place) [
+  | inl same ↦
+      let Q : ℕ → Type 0 = λ n. (is_settled (cell_in new n) || list_any (nat_eq n) listed) ≡ true in
+      subst Q (sym same) (listed_or (is_settled (cell_in old place)) (is_settled (cell_in new place)) (list_any (nat_eq place) listed) (λ holds. ap is_settled change.here ∙ goes holds) (was place))
+  | inr apart ↦ ap (λ (c : Cell). is_settled c || list_any (nat_eq other) listed) (cell_from_get old new other (change.others other apart)) ∙ was other
+]
+
+-- ---- what a table keeps
+
+pub IsTable-kept : (size : ℕ) (old new : BTreeMap ℕ Cell) (before after : List ℕ) → IsTable size old before → KeepsAll old new → IsListed new after → IsTable size new after
+IsTable-kept size old new before after was keeps listed = record {
+  inside = λ place past. ap is_some (keeps place) ∙ was.inside place past;
+  all_listed = listed;
+  misses = λ place. subst ReadsAsMiss (sym (cell_from_get old new place (keeps place))) (was.misses place);
+}
+
+pub IsTable-changed : (size : ℕ) (old new : BTreeMap ℕ Cell) (before after : List ℕ) (place : ℕ) (cell : Cell) → IsTable size old before → place < size → ChangesOne old new place cell → IsListed new after → ReadsAsMiss cell → IsTable size new after
+IsTable-changed size old new before after place cell was within change listed reads = record {
+  inside = λ other past.
+      let apart : other ≢ place = omega arith in
+      ap is_some (change.others other apart) ∙ was.inside other past;
+  all_listed = listed;
+  misses = λ other. elim (cases_eq other place) [
+    | inl same ↦
+        let Q : ℕ → Type 0 = λ n. ReadsAsMiss (cell_in new n) in
+        subst Q (sym same) (subst ReadsAsMiss (sym change.here) reads)
+    | inr apart ↦ subst ReadsAsMiss (sym (cell_from_get old new other (change.others other apart))) (was.misses other)
+  ];
+}
+
+pub IsTable-settled : (size : ℕ) (side : Side) (old new : BTreeMap ℕ Cell) (before : List ℕ) → IsTable size old before → ((place : ℕ) → cell_in new place ≡ settled_cell side (cell_in old place)) → ((place : ℕ) → is_some (get nat_cmp new place) ≡ is_some (get nat_cmp old place)) → (after : List ℕ) → IsTable size new after
+IsTable-settled size side old new before was settled same_keys after = record {
+  inside = λ place past. same_keys place ∙ was.inside place past;
+  all_listed = λ place. or_left (is_settled (cell_in new place)) (list_any (nat_eq place) after) (ap is_settled (settled place));
+  misses = λ place. subst ReadsAsMiss (sym (settled place)) (ReadsAsMiss-kept_cell (cell_in old place) (side_index side (cell_in old place)) (was.misses place));
+}
+
+ReadsAsMiss-blank : ReadsAsMiss blank_cell
+ReadsAsMiss-blank bytes hurt = absurd (cc hurt)
+
+-- what stands at a place of a map that was cut
+pub cell_in-cut : (old new : BTreeMap ℕ Cell) (blocks place : ℕ) → get nat_cmp new place ≡ cond (ltb place blocks) (get nat_cmp old place) None → cell_in new place ≡ cond (ltb place blocks) (cell_in old place) blank_cell
+cell_in-cut old new blocks place cut = elim (cases_lt place blocks) [
+  | inl within ↦ cell_from_get old new place (cut ∙ cond-true (ltb place blocks) (get nat_cmp old place) None (lt-ltb place blocks within)) ∙ sym (cond-true (ltb place blocks) (cell_in old place) blank_cell (lt-ltb place blocks within))
+  | inr past ↦ ap (λ (o : Option Cell). unwrap_or o blank_cell) (cut ∙ cond-false (ltb place blocks) (get nat_cmp old place) None (le-ltb place blocks past)) ∙ sym (cond-false (ltb place blocks) (cell_in old place) blank_cell (le-ltb place blocks past))
+]
+
+pub IsTable-cut : (size blocks : ℕ) (old new : BTreeMap ℕ Cell) (listed : List ℕ) → IsTable size old listed → ((place : ℕ) → get nat_cmp new place ≡ cond (ltb place blocks) (get nat_cmp old place) None) → IsTable blocks new listed
+IsTable-cut size blocks old new listed was cut = record {
+  inside = λ place past. ap is_some (cut place ∙ cond-false (ltb place blocks) (get nat_cmp old place) None (le-ltb place blocks past));
+  all_listed = λ place. subst (λ c. (is_settled c || list_any (nat_eq place) listed) ≡ true) (sym (cell_in-cut old new blocks place (cut place)))
+      (elim (ltb place blocks) as (λ b. (is_settled (cond b (cell_in old place) blank_cell) || list_any (nat_eq place) listed) ≡ true) [ true ↦ was.all_listed place | false ↦ refl ]);
+  misses = λ place. subst ReadsAsMiss (sym (cell_in-cut old new blocks place (cut place)))
+      (elim (ltb place blocks) as (λ b. ReadsAsMiss (cond b (cell_in old place) blank_cell)) [ true ↦ was.misses place | false ↦ ReadsAsMiss-blank ]);
+}
+
+-- a change that may find no memory
+pub IsTable-tried : {E : Type 0} (result : Result (Unit {0}) E) (size : ℕ) (old new : BTreeMap ℕ Cell) (before after : List ℕ) (place : ℕ) (cell : Cell) → IsTable size old before → place < size → OnOk result (ChangesOne old new place cell) → OnErr result (KeepsAll old new) → IsListed new after → ReadsAsMiss cell → IsTable size new after
+IsTable-tried (Ok done) size old new before after place cell was within change keeps listed reads = IsTable-changed size old new before after place cell was within change listed reads
+IsTable-tried (Err reason) size old new before after place cell was within change keeps listed reads = IsTable-kept size old new before after was keeps listed
+
+-- ---- hurt and picked places
+
+pub ReadsAsMiss-hurt_cell : (cell : Cell) (page : List ℕ) → IsMiss cell page → ReadsAsMiss (hurt_cell cell page)
+ReadsAsMiss-hurt_cell cell page miss bytes hurt =
+    let same : page ≡ bytes = cc hurt in
+    subst (λ (b : List ℕ). IsMiss (hurt_cell cell page) b) same (record { unsealed = miss.unsealed; unlike = miss.unlike })
+
+pub ReadsAsMiss-picked_cell : (i : ℕ) (cell : Cell) → ReadsAsMiss cell → ReadsAsMiss (picked_cell i cell)
+ReadsAsMiss-picked_cell i cell reads =
+    elim (is_settled cell) as (λ b. ReadsAsMiss (cond b cell (kept_cell cell i))) [ true ↦ reads | false ↦ ReadsAsMiss-kept_cell cell i reads ]
+
+pub is_settled-picked_cell : (i : ℕ) (cell : Cell) → is_settled (picked_cell i cell) ≡ true
+is_settled-picked_cell i cell = elim (cases_Bool (is_settled cell)) [
+  | inl settled ↦ ap is_settled (cond-true (is_settled cell) cell (kept_cell cell i) settled) ∙ settled
+  | inr unsettled ↦ ap is_settled (cond-false (is_settled cell) cell (kept_cell cell i) unsettled)
+]
+
+none_from : {T : Type 0} (o : Option T) → is_some o ≡ false → o ≡ None
+none_from None is = refl
+none_from (Some x) is = absurd (cc is)
+
+-- a place with two candidates or more lies within the disk
+pub within_from_unsettled : (size : ℕ) (cells : BTreeMap ℕ Cell) (listed : List ℕ) (place : ℕ) → IsTable size cells listed → is_settled (cell_in cells place) ≡ false → place < size
+within_from_unsettled size cells listed place was unsettled = elim (cases_lt place size) [
+  | inl within ↦ within
+  | inr past ↦
+      let blank : is_settled (cell_in cells place) ≡ true = ap (λ (o : Option Cell). is_settled (unwrap_or o blank_cell)) (none_from (get nat_cmp cells place) (was.inside place past)) in
+      absurd (cc (blank, unsettled))
+]
+
+-- and the map has it
+pub is_some_from_unsettled : (cells : BTreeMap ℕ Cell) (place : ℕ) → is_settled (cell_in cells place) ≡ false → is_some (get nat_cmp cells place) ≡ true
+is_some_from_unsettled cells place unsettled = elim (cases_Bool (is_some (get nat_cmp cells place))) [
+  | inl there ↦ there
+  | inr absent ↦
+      let blank : is_settled (cell_in cells place) ≡ true = ap (λ (o : Option Cell). is_settled (unwrap_or o blank_cell)) (none_from (get nat_cmp cells place) absent) in
+      absurd (cc (blank, unsettled))
+]
+
+pub IsListed-kept : (old new : BTreeMap ℕ Cell) (listed : List ℕ) → IsListed old listed → KeepsAll old new → IsListed new listed
+IsListed-kept old new listed was keeps place = ap (λ (c : Cell). is_settled c || list_any (nat_eq place) listed) (cell_from_get old new place (keeps place)) ∙ was place
+
+pub IsTable-hurt : (size : ℕ) (old new : BTreeMap ℕ Cell) (listed : List ℕ) (place : ℕ) (page : List ℕ) → IsTable size old listed → place < size → is_miss (cell_in old place) page ≡ true → ChangesOne old new place (hurt_cell (cell_in old place) page) → IsTable size new listed
+IsTable-hurt size old new listed place page was within miss change =
+    IsTable-changed size old new listed listed place (hurt_cell (cell_in old place) page) was within change (IsListed-changed old new listed place (hurt_cell (cell_in old place) page) was.all_listed change (λ holds. holds)) (ReadsAsMiss-hurt_cell (cell_in old place) page ((is_miss-Decides (cell_in old place) page).0 miss))
+
+pub IsTable-damaged : {E : Type 0} (result : Result (Unit {0}) E) (size : ℕ) (old new : BTreeMap ℕ Cell) (listed : List ℕ) (place : ℕ) (page : List ℕ) → IsTable size old listed → place < size → is_miss (cell_in old place) page ≡ true → OnOk result (ChangesOne old new place (hurt_cell (cell_in old place) page)) → OnErr result (KeepsAll old new) → IsTable size new listed
+IsTable-damaged (Ok done) size old new listed place page was within miss change keeps = IsTable-hurt size old new listed place page was within miss change
+IsTable-damaged (Err reason) size old new listed place page was within miss change keeps = IsTable-kept size old new listed listed was keeps (IsListed-kept old new listed was.all_listed keeps)
+
+pub IsTable-picked : (size : ℕ) (old new : BTreeMap ℕ Cell) (listed : List ℕ) (place index : ℕ) → IsTable size old listed → place < size → ChangesOne old new place (picked_cell index (cell_in old place)) → IsTable size new listed
+IsTable-picked size old new listed place index was within change =
+    IsTable-changed size old new listed listed place (picked_cell index (cell_in old place)) was within change (IsListed-changed old new listed place (picked_cell index (cell_in old place)) was.all_listed change (λ holds. is_settled-picked_cell index (cell_in old place))) (ReadsAsMiss-picked_cell index (cell_in old place) (was.misses place))

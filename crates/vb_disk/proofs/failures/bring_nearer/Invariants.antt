@@ -1,0 +1,7 @@
+use Rattle.std.proofs.Common.{◌≡◌, ◌++◌, map, take, drop}
+use Rattle.vb_disk.specs.Failing.{nearer}
+use Rattle.vb_disk.proofs.failures.bring_nearer.Given as goal
+
+abbrev pub invariant-loop-i : goal.invariant-loop-i
+invariant-loop-i g l =
+    l.failures.items ≡ map nearer (take l.i l.initial.failures.items) ++ drop l.i l.initial.failures.items

@@ -1,0 +1,12 @@
+pub mod Causes
+pub mod Cells
+pub mod Misses
+pub mod Crashes
+pub mod Failing
+pub mod Logs
+pub mod Memory
+pub mod MemoryLogs
+pub mod Moments
+pub mod Sparse
+pub mod States
+pub mod Valid

@@ -1,0 +1,22 @@
+// Why a call of a disk failed.
+ghost use Rattle.std.specs.Prelude.{◌≡◌};
+ghost use Rattle.vb_disk.specs.declared.disk_error.DiskError.TheVariants.{Memory};
+
+use std::alloc::AllocError;
+
+/// Why a call of a disk failed.
+#[derive(Clone, Copy, Debug, PartialEq, Eq)]
+pub enum DiskError {
+    /// The device failed, and counts a fault more.
+    Failed,
+    /// No memory was found.
+    Memory,
+}
+
+impl From<AllocError> for DiskError {
+    ghost from_gives = { λ _ e. e ≡ Memory };
+
+    fn from(_: AllocError) -> Self {
+        DiskError::Memory
+    }
+}

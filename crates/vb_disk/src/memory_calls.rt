@@ -1,0 +1,91 @@
+// The calls of a disk in memory. They say of its state what a disk promises of a told one, and exactly when they fail.
+ghost use Rattle.std.specs.Prelude.{◌≡◌, ◌<◌, Some, if◌then◌else◌, IfOk, OnOk, OnErr, IsErrOf};
+ghost use Rattle.vb_disk.specs.Causes.{HasCause, UnlessMemory};
+ghost use Rattle.vb_disk.specs.Failing.{due_of, is_made};
+ghost use Rattle.vb_disk.specs.Memory.{state_of, failures_of, faults_of, FailsAsListed, IsUntouched};
+ghost use Rattle.vb_disk.specs.States.{read_at, written, synced, resized};
+ghost use Rattle.vb_disk.specs.Valid.{IsDiskState-state_of};
+
+use crate::{Disk, DiskError, MemoryDisk, Side};
+use vb_block::Page;
+
+impl Disk for MemoryDisk {
+    ghost told = { λ m. Some (state_of m) };
+
+    ghost seen = { λ m. (state_of m).size };
+
+    ghost faults = { faults_of };
+
+    ghost valid = { λ m d is. IsDiskState-state_of m d is };
+
+    fn size(&mut self) -> Result<u32, DiskError>
+        ensures blocks { IfOk result (λ blocks. blocks ≡ (state_of self.old).size) }
+        ensures state { state_of self.new ≡ state_of self.old }
+        ensures cause { HasCause DiskError.Failed (faults_of self.old) (faults_of self.new) result }
+        ensures listed { FailsAsListed self.old self.new result }
+        ensures never_memory { IsErrOf result DiskError.Memory → ⊥ }
+    {
+        self.pass()?;
+        Ok(self.table.size)
+    }
+
+    fn read(&mut self, place: u32, into: &mut Page) -> Result<(), DiskError>
+        requires { place < (state_of self.old).size }
+        ensures bytes { OnOk result (into.new ≡ read_at (state_of self.old) place) }
+        ensures state { state_of self.new ≡ state_of self.old }
+        ensures cause { HasCause DiskError.Failed (faults_of self.old) (faults_of self.new) result }
+        ensures listed { FailsAsListed self.old self.new result }
+        ensures never_memory { IsErrOf result DiskError.Memory → ⊥ }
+    {
+        self.pass()?;
+        match self.table.cell(place) {
+            Some(cell) => into.copy_from(cell.seen()),
+            None => into.fill(0),
+        }
+        Ok(())
+    }
+
+    fn write(&mut self, place: u32, page: &Page) -> Result<(), DiskError>
+        requires { place < (state_of self.old).size }
+
+        // It is made where it doesn't fail, or is listed to fail after it was made.
+        ensures made { UnlessMemory result (state_of self.new
+            ≡ (if is_made (due_of (failures_of self.old)) then written (state_of self.old) place page.now else state_of self.old)) }
+        ensures cause { HasCause DiskError.Failed (faults_of self.old) (faults_of self.new) result }
+        ensures listed { UnlessMemory result (FailsAsListed self.old self.new result) }
+        ensures untouched { IsErrOf result DiskError.Memory → IsUntouched self.old self.new }
+        ensures size { (state_of self.new).size ≡ (state_of self.old).size }
+    {
+        match self.fails.due() {
+            Some(false) => {}
+            _ => self.put(place, page)?,
+        }
+        self.pass()
+    }
+
+    fn sync(&mut self) -> Result<(), DiskError>
+        ensures done { OnOk result (state_of self.new ≡ synced (state_of self.old)) }
+        ensures kept { OnErr result (state_of self.new ≡ state_of self.old) }
+        ensures cause { HasCause DiskError.Failed (faults_of self.old) (faults_of self.new) result }
+        ensures listed { FailsAsListed self.old self.new result }
+        ensures never_memory { IsErrOf result DiskError.Memory → ⊥ }
+    {
+        self.pass()?;
+        self.table.settle(Side::Last);
+        self.syncs = self.syncs.saturating_add(1);
+        Ok(())
+    }
+
+    fn resize(&mut self, blocks: u32) -> Result<(), DiskError>
+        ensures done { OnOk result (state_of self.new ≡ resized (state_of self.old) blocks) }
+        ensures kept { OnErr result (state_of self.new ≡ state_of self.old) }
+        ensures cause { HasCause DiskError.Failed (faults_of self.old) (faults_of self.new) result }
+        ensures listed { FailsAsListed self.old self.new result }
+        ensures never_memory { IsErrOf result DiskError.Memory → ⊥ }
+    {
+        self.pass()?;
+        self.table.resize(blocks);
+        self.syncs = self.syncs.saturating_add(1);
+        Ok(())
+    }
+}

@@ -1,0 +1,7 @@
+-- What is known of a disk that tells nothing.
+use Rattle.std.specs.Prelude.{◌≡◌, None, Some}
+use Rattle.vb_disk.specs.States.{DiskState, IsDiskState}
+
+-- where nothing is told, no state is
+pub nothing_is_told : (d : DiskState) → None ≡ Some d → IsDiskState d
+nothing_is_told d told = absurd (cc told)
