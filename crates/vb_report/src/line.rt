@@ -66,7 +66,12 @@ fn put_refusal(line: &mut Bytes, refusal: &Refusal) -> Result<(), AllocError>
             line.extend(b"TooLong ")?;
             put_number(line, length)
         }
-        Refusal::TooManyNodes { nodes, limit } => put_numbers(line, b"TooManyNodes ", u64::from(nodes), u64::from(limit)),
+        Refusal::TooManyNodes { nodes, limit } => put_numbers(
+            line,
+            b"TooManyNodes ",
+            u64::from(nodes),
+            u64::from(limit),
+        ),
         Refusal::NoSpace { pages, limit } => put_numbers(line, b"NoSpace ", pages, limit),
     }
 }
