@@ -1,5 +1,5 @@
 -- Two texts, one after the other.
-use Rattle.std.proofs.Common.{◌≡◌, ℕ, List, ◌++◌, Option, Some, Result, Ok, Err, sym, ap, ◌∙◌, append_assoc}
+use Rattle.std.proofs.Common.{ℕ, List, ◌++◌, Option, Some, Result, Ok, Err, sym, ap, ◌∙◌, append_assoc}
 use Rattle.vb_stream.specs.declared.sink.SinkError.{SinkError}
 use Rattle.vb_stream.specs.Streams.{WritesFront, WritesWhole}
 

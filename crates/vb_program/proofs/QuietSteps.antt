@@ -1,15 +1,11 @@
 -- What the lines of a quiet run make of a quiet folder.
-use Rattle.std.proofs.Common.{◌≡◌, ℕ, ◌+◌, Bool, true, false, cond, if◌then◌else◌, List, [], ◌∷◌, ◌++◌, refl, sym, ap, ◌∙◌, append_assoc, ◌<◌, subst, rules}
-use Rattle.std.proofs.lemmas.Grind.{common_steps}
-use Rattle.std.specs.List.{fold}
+use Rattle.std.proofs.Common.{◌≡◌, ℕ, ◌+◌, Bool, true, false, cond, List, [], ◌∷◌, ◌++◌, sym, ap, ◌∙◌, append_assoc, ◌<◌, subst, rules}
 use Rattle.std.proofs.lemmas.Grind.{fold-append}
 use Rattle.vb_tree.specs.declared.tree.TreeEntry.{TreeEntry}
 use Rattle.vb_tree.specs.declared.operation.Op.{Op}
-use Rattle.vb_tree.specs.declared.operation.Reply.{Reply}
-use Rattle.vb_tree.specs.Operations.{reply_of, is_done, effect_of, tree_after, tree_after_reply}
-use Rattle.vb_hist.specs.declared.entry.Entry.{Entry}
+use Rattle.vb_tree.specs.Operations.{reply_of, is_done, effect_of, tree_after_reply}
 use Rattle.vb_hist.specs.declared.entry.Entry.TheVariants.{Call, Freeze, Commit, Rest, Publish, End}
-use Rattle.vb_hist.specs.Histories.{folder_after, tree_after_entry}
+use Rattle.vb_hist.specs.Histories.{tree_after_entry}
 use Rattle.vb_hist.specs.Quiet.{epoch_after, last_epoch_of, unfrozen_after, is_unfrozen, after_quiet_freeze}
 use Rattle.vb_core.specs.declared.event.FolderEvent.TheVariants as events
 use Rattle.vb_core.specs.Core.{Core, after_call, after_end, core_after, greatest_epoch}

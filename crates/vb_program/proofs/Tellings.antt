@@ -1,5 +1,5 @@
 -- What a report tells of a history.
-use Rattle.std.proofs.Common.{◌≡◌, ℕ, List, [], ◌++◌, take, drop, sym, ap, ◌∙◌, Err, subst}
+use Rattle.std.proofs.Common.{◌≡◌, ℕ, List, [], ◌++◌, take, drop, sym, ap, ◌∙◌}
 use Rattle.std.proofs.lemmas.List.{take-append-drop}
 use Rattle.vb_hist.specs.declared.entry.Entry.{Entry}
 use Rattle.vb_report.specs.Text.{history_text}

@@ -1,7 +1,6 @@
 -- What a run may come to, and what is then written.
-use Rattle.std.specs.Prelude.{◌≡◌, ℕ, Bool, true, false, nat_eq, List, [], ◌∷◌, ◌++◌, take, codes, decimal, Option, Some, Result, Ok, Err, ◌⊎◌}
+use Rattle.std.specs.Prelude.{◌≡◌, ℕ, Bool, true, false, nat_eq, List, [], ◌∷◌, ◌++◌, take, codes, Option, Some, Result, Ok, Err, ◌⊎◌}
 use Rattle.std.specs.Cmp.Lexicographic.{pointwise}
-use Rattle.vb_cause.specs.Faults.{HasRisen}
 use Rattle.vb_tree.specs.declared.tree.Limits.{Limits}
 use Rattle.vb_hist.specs.declared.entry.Entry.{Entry}
 use Rattle.vb_hist.specs.declared.script.WriterScript.{WriterScript}

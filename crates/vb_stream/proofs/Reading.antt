@@ -1,5 +1,5 @@
 -- How what was got grows.
-use Rattle.std.proofs.Common.{◌≡◌, ℕ, ◌+◌, ◌<◌, ◌≤◌, Bool, false, List, [], ◌++◌, length, take, drop, Option, Some, Ok, sym, ap, ◌∙◌, subst, append_assoc, arith, ltb}
+use Rattle.std.proofs.Common.{◌≡◌, ℕ, ◌+◌, ◌<◌, ◌≤◌, false, List, [], ◌++◌, length, take, drop, Option, Some, Ok, sym, ap, ◌∙◌, subst, append_assoc, arith, ltb}
 use Rattle.std.proofs.lemmas.List.{take-append-drop, take-take, take_at, drop_at, take_all, drop_all, length-append, length-take-le, append-nil}
 use Rattle.std.proofs.Math.Seq.{drop-nil}
 use Rattle.std.proofs.lemmas.Bool.{ltb-false}

@@ -1,5 +1,5 @@
 -- How what was written grows.
-use Rattle.std.proofs.Common.{◌≡◌, ℕ, List, ◌++◌, take, drop, Option, Some, Ok, Err, sym, ap, ◌∙◌, append_assoc}
+use Rattle.std.proofs.Common.{◌≡◌, ℕ, List, ◌++◌, take, drop, Option, Some, Err, sym, ap, ◌∙◌, append_assoc}
 use Rattle.std.proofs.lemmas.List.{take-append-drop}
 use Rattle.vb_stream.specs.declared.sink.SinkError.{SinkError}
 use Rattle.vb_stream.specs.declared.sink.SinkError.TheVariants.{Failed, Memory}

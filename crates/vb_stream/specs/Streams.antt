@@ -1,5 +1,5 @@
 -- What one read or write does, and what many of them do in a row.
-use Rattle.std.specs.Prelude.{◌≡◌, ℕ, ◌-◌, ◌<◌, ◌≤◌, Bool, false, ◌==◌, List, [], ◌∷◌, ◌++◌, length, take, drop, map, Option, Some, None, Result, Ok, Err}
+use Rattle.std.specs.Prelude.{◌≡◌, ℕ, ◌-◌, ◌<◌, ◌≤◌, Bool, false, ◌==◌, List, [], ◌++◌, length, take, drop, map, Option, Some, Result, Ok, Err}
 use Rattle.std.specs.List.{list_any}
 use Rattle.vb_stream.specs.declared.source.SourceFault.{SourceFault}
 use Rattle.vb_stream.specs.declared.whole.ReadError.{ReadError}

@@ -1,4 +1,4 @@
-use Rattle.std.proofs.Common.{arith, length, take, ◌≤◌, ◌<◌, ◌+◌, min}
+use Rattle.std.proofs.Common.{arith}
 use Rattle.std.proofs.lemmas.List.{length-take}
 use Rattle.vb_stream.proofs.Reading.{taken-got, nothing-left, lost-at-most}
 use Rattle.vb_stream.proofs.whole.read_more.Goals as goal
