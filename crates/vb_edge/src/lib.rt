@@ -9,3 +9,5 @@ mod late_file;
 pub use file_disk::FileDisk;
 pub use file_log::FileLog;
 
+#[cfg(test)]
+mod tests;
