@@ -1,6 +1,4 @@
 // What can happen to a folder, and what each event answers.
-use std::alloc::AllocError;
-use vb_list::Items;
 use vb_tree::{Op, Reply};
 
 /// One call on a folder.
@@ -55,7 +53,7 @@ pub enum FreezeError {
 pub struct NoView;
 
 /// What an event answered.
-#[derive(Debug, Drop)]
+#[derive(Debug, PartialEq, Eq, Drop)]
 pub enum FolderAnswer {
     Called(Reply),
     Frozen { epoch: u64 },

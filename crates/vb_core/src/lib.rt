@@ -8,3 +8,6 @@ mod steps;
 pub use event::{CommitStep, FolderAnswer, FolderEvent, FreezeError, NoView, UploadStep};
 pub use folder::Folder;
 pub use steps::{Played, play};
+
+#[cfg(test)]
+mod tests;

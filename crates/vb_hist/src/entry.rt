@@ -5,7 +5,7 @@ use std::alloc::{AllocError, Global};
 use vb_tree::{Limits, Op, Reply};
 
 /// One thing that happened to a folder. Writer 0, as in `by`, is the program.
-#[derive(Debug, Drop)]
+#[derive(Debug, PartialEq, Eq, Drop)]
 pub enum Entry {
     /// A writer's operation and what it answered.
     Call { writer: u32, op: Op, reply: Reply },

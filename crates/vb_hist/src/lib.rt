@@ -10,3 +10,6 @@ pub use entry::{Entry, Stage};
 pub use history::History;
 pub use laws::{history_without_cut_survives, legal_histories_grow};
 pub use script::{Line, Lines, Scripts, WriterScript};
+
+#[cfg(test)]
+mod tests;
