@@ -181,8 +181,8 @@ pub EachMoment-writes : (P : DiskState → Type 0) (old new : DiskState) → Rea
 EachMoment-writes P old new reached same between = record {
   reached = reached;
   each = λ d stand moment.
-    let parts = moment_by_writes old new d stand moment same in
-    between d parts.0 parts.1;
+      let parts = moment_by_writes old new d stand moment same in
+      between d parts.0 parts.1;
 }
 
 -- what each moment has, each moment has that follows from it
