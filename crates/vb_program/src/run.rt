@@ -1,13 +1,15 @@
 // The top call: words and a script in, lines and a status out.
-ghost use Rattle.std.specs.Prelude.{◌≡◌, ◌≢◌, ◌++◌, ◌<◌, ◌≤◌, ◌⊎◌, ℕ, List, [], false, true, ◌↔◌, Some, Err, length, take, codes};
+ghost use Rattle.std.specs.Prelude.{◌≡◌, ◌≢◌, ◌++◌, ◌<◌, ◌≤◌, ◌⊎◌, ℕ, List, [], false, true, ◌↔◌, Some, Ok, Err, length, take, codes};
 ghost use Rattle.vb_hist.specs.Quiet.{AreInRange, line_count, is_unfrozen};
 ghost use Rattle.vb_report.specs.Text.{epoch_line};
+ghost use Rattle.vb_hist.specs.declared.script.WriterScript.{WriterScript};
+ghost use Rattle.vb_script.specs.declared.error.ScriptError.TheVariants as script;
 ghost use Rattle.vb_cause.specs.Faults.{HasRisen};
 ghost use Rattle.vb_stream.specs.Streams.{TakesAtMost, WritesWhole};
 ghost use Rattle.vb_stream.specs.declared.sink.SinkError.{SinkError};
 ghost use Rattle.vb_program.specs.Playing.{IsQuiet};
 ghost use Rattle.vb_program.specs.declared.ending.Ending.{Ending};
-ghost use Rattle.vb_program.specs.Run.{are_words, most_read, Reports, TellsHistory, history_of_run, IsDue, IsWritten, error_line, status_of, status_after_fault, status_after_shortage};
+ghost use Rattle.vb_program.specs.Run.{are_words, most_read, script_in, Reports, TellsHistory, history_of_run, IsDue, IsWritten, error_line, status_of, status_after_fault, status_after_shortage};
 
 use crate::ending::Ending;
 use crate::quiet::play_scripts;
@@ -52,6 +54,12 @@ pub fn run<S: Source, O: Sink>(
     ensures words { (result.status ≡ 2) ↔ (are_words words.now ≡ false) }
     ensures source_fault { result.status ≡ 3 → HasRisen (S.faults source.old) (S.faults source.new) }
     ensures sink_fault { result.status ≡ 4 → HasRisen (O.faults sink.old) (O.faults sink.new) }
+
+    // 11 exactly where a line can't be played: it names the first one, and comes for no script that can.
+    ensures not_yet { (input : List ℕ) → S.left source.old ≡ Some input → result.status ≡ 11 →
+        (line : ℕ) × (script_in input ≡ Err (script.NotYet line)) }
+    ensures whole { (input : List ℕ) → S.left source.old ≡ Some input → result.status ≡ 0 →
+        (scripts : List WriterScript) × (script_in input ≡ Ok scripts) }
 
     // The source is read to its end where the run is whole, and never further than this.
     ensures read_whole { (input : List ℕ) → S.left source.old ≡ Some input → result.status ≡ 0 → S.left source.new ≡ Some [] }
