@@ -10,7 +10,7 @@ use Rattle.vb_tree.specs.declared.operation.Reply.{Reply}
 use Rattle.vb_tree.specs.declared.operation.Reply.TheVariants.{Done, Refused}
 use Rattle.vb_tree.specs.declared.operation.Refusal.{Refusal}
 use Rattle.vb_tree.specs.declared.operation.Refusal.TheVariants.{RootFixed, NoEntry, NoParent, ParentNotDir, Exists, NotAFile, TooLong, TooManyNodes, NoSpace}
-use Rattle.vb_tree.specs.Paths.{text_of_path}
+use Rattle.vb_path.specs.Paths.{text_of_path}
 use Rattle.vb_hist.specs.declared.entry.Entry.{Entry}
 use Rattle.vb_hist.specs.declared.entry.Entry.TheVariants.{Call, Freeze, FreezeBusy, Commit, Rest, Publish, Doubt, Dropped, End, Cut}
 

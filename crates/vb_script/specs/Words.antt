@@ -5,8 +5,8 @@ use Rattle.std.specs.Result.{result_ok}
 use Rattle.std.specs.Char.{is_ascii_digit}
 use Rattle.std.specs.Str.Parse.{digits_value}
 use Rattle.hex.specs.Hex.{decode_of}
-use Rattle.vb_tree.specs.declared.path.PathError.{PathError}
-use Rattle.vb_tree.specs.Paths.{path_of}
+use Rattle.vb_path.specs.declared.path.PathError.{PathError}
+use Rattle.vb_path.specs.Paths.{path_of}
 
 -- the lines of a script, between its line ends. What follows the last line end is a line, too: where nothing does, it is empty
 abbrev pub lines_of : List ℕ → List (List ℕ)

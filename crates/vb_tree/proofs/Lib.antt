@@ -1,9 +1,6 @@
 pub mod Allowed
 pub mod Filled
 pub mod Lookups
-pub mod PathLaws
-pub mod Pieces
-pub mod ReadText
 pub mod Sizes
 pub mod TreeLaws
 pub mod Ways

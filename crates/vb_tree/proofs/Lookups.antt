@@ -9,7 +9,7 @@ use Rattle.vb_tree.specs.declared.tree.Kind.TheVariants.{Folder}
 use Rattle.std.specs.Option.{option_map}
 use Rattle.std.proofs.lemmas.List.Folds.{find_at}
 use Rattle.std.proofs.lemmas.Option.{slice_get_past}
-use Rattle.vb_tree.specs.Paths.{same_path, path_cmp}
+use Rattle.vb_path.specs.Paths.{same_path, path_cmp}
 use Rattle.vb_tree.specs.Trees.{is_root, kind_at, bytes_in, entry_at, insert_entry, with_bytes_at}
 
 -- the first place that passes, or the length

@@ -7,9 +7,9 @@ use Rattle.std.proofs.lemmas.Bool.{cases_Bool}
 use Rattle.vb_tree.specs.declared.tree.Kind.{Kind}
 use Rattle.vb_tree.specs.declared.tree.Kind.TheVariants.{Folder, File}
 use Rattle.vb_tree.specs.declared.tree.TreeEntry.{TreeEntry}
-use Rattle.vb_tree.specs.Paths.{same_path, path_cmp}
+use Rattle.vb_path.specs.Paths.{same_path, path_cmp}
 use Rattle.vb_tree.specs.Trees.{is_root, entry_at, kind_at, insert_entry, with_bytes_at, AllAfter, AreInOrder, parent_of, BelongsIn, AllBelongIn, IsTree}
-use Rattle.vb_tree.proofs.PathLaws.{path_cmp-total, same_path-Decides, after-path, before-path}
+use Rattle.vb_path.proofs.PathLaws.{path_cmp-total, same_path-Decides, after-path, before-path}
 
 -- ---- order
 

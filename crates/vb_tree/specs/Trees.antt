@@ -8,7 +8,7 @@ use Rattle.vb_tree.specs.declared.tree.Kind.{Kind}
 use Rattle.vb_tree.specs.declared.tree.Kind.TheVariants.{Folder}
 use Rattle.vb_tree.specs.declared.tree.Limits.{Limits}
 use Rattle.vb_tree.specs.declared.tree.TreeEntry.{TreeEntry}
-use Rattle.vb_tree.specs.Paths.{same_path, path_cmp}
+use Rattle.vb_path.specs.Paths.{same_path, path_cmp}
 
 -- a tree and its limits
 pub record LimitedTree : Type 0 where

@@ -5,7 +5,7 @@ ghost use Rattle.std.specs.Result.{result_err};
 ghost use Rattle.vb_tree.specs.declared.tree.TreeEntry.{TreeEntry};
 ghost use Rattle.vb_tree.specs.declared.operation.Op.{Op};
 ghost use Rattle.vb_tree.specs.declared.operation.Refusal.{Refusal};
-ghost use Rattle.vb_tree.specs.Paths.{same_path};
+ghost use Rattle.vb_path.specs.Paths.{same_path};
 ghost use Rattle.vb_tree.specs.Trees.{page_count, pages_after};
 ghost use Rattle.vb_tree.specs.Operations.{refuse_way, refuse_unless_file, refuse_new, refuse_length, refusal_of, new_length};
 

@@ -3,7 +3,7 @@ ghost use Rattle.std.specs.Prelude.{◌≡◌, ◌+◌, ◌^◌, ◌<◌, ◌≤
 ghost use Rattle.std.specs.List.{position_or_len};
 ghost use Rattle.std.specs.Option.{option_copied};
 ghost use Rattle.std.specs.Ordering.{is_lt};
-ghost use Rattle.vb_tree.specs.Paths.{same_path, path_cmp};
+ghost use Rattle.vb_path.specs.Paths.{same_path, path_cmp};
 ghost use Rattle.vb_tree.specs.Trees.{entry_at, kind_at, insert_entry, pages_of_length, page_count};
 
 use crate::{Bytes, Kind, Path, TreeEntry};

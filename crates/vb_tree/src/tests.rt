@@ -1,4 +1,4 @@
-// Outside examples: texts that are paths or not, and operations with their replies.
+// Outside examples: operations with their replies.
 use super::*;
 use std::alloc::Global;
 use std::process::Abort;
@@ -8,34 +8,6 @@ const LIMITS: Limits = Limits {
     pages: 7167,
     nodes: 16,
 };
-
-fn error_of(alloc: Global, text: &[u8]) -> Option<PathError> {
-    Path::parse(alloc, text).err()
-}
-
-#[test]
-fn texts_are_paths_or_not(rt: HostRuntime) -> Result<(), Fail> {
-    let long = [b'a'; 256];
-    let rows: [(&[u8], Option<PathError>); 13] = [
-        (b"/", None),
-        (b"/a/b", None),
-        (b"", Some(PathError::Empty)),
-        (b"a", Some(PathError::NotAbsolute)),
-        (b"/\xff/", Some(PathError::NotUtf8 { at: 1 })),
-        (b"/a\0", Some(PathError::BadByte { at: 2 })),
-        (b"/a/", Some(PathError::TrailingSlash)),
-        (b"//", Some(PathError::TrailingSlash)),
-        (b"//a", Some(PathError::EmptyPart)),
-        (b"/./a", Some(PathError::DotPart)),
-        (b"/a/..", Some(PathError::DotPart)),
-        (b"/...", None),
-        (&long, Some(PathError::NotAbsolute)),
-    ];
-    for (text, error) in rows {
-        assert_eq!(rt; error_of(rt.alloc(), text), error);
-    }
-    Ok(())
-}
 
 /// The reply with this refusal, and Done without one.
 fn reply_of(refusal: Option<Refusal>) -> Reply {

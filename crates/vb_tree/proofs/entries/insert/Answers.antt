@@ -2,7 +2,7 @@ use Rattle.std.proofs.Common.{◌≡◌, Bool, ap, ◌∙◌, sym}
 use Rattle.std.specs.List.{position_or_len, insert}
 use Rattle.std.specs.Ordering.{is_lt}
 use Rattle.vb_tree.specs.declared.tree.TreeEntry.{TreeEntry}
-use Rattle.vb_tree.specs.Paths.{path_cmp}
+use Rattle.vb_path.specs.Paths.{path_cmp}
 use Rattle.vb_tree.proofs.Lookups.{insert_entry-place}
 use Rattle.vb_tree.proofs.entries.insert.Goals as goal
 

@@ -3,7 +3,7 @@ use Rattle.vb_tree.specs.declared.tree.Kind.TheVariants.{File}
 use Rattle.vb_tree.specs.declared.tree.TreeEntry.{TreeEntry}
 use Rattle.vb_tree.specs.declared.operation.Op.{Op}
 use Rattle.vb_tree.specs.declared.operation.Op.TheVariants.{Write}
-use Rattle.vb_tree.specs.Paths.{same_path}
+use Rattle.vb_path.specs.Paths.{same_path}
 use Rattle.vb_tree.specs.Operations.{written_over, refusal_of}
 use Rattle.vb_tree.proofs.Lookups.{with_bytes_at-place}
 use Rattle.vb_tree.proofs.Allowed.{tree_after-allowed}

@@ -5,8 +5,8 @@ use Rattle.std.specs.Str.Lossy.{utf8_valid_len}
 use Rattle.std.specs.Ordering.{nat_cmp}
 use Rattle.std.specs.declared.cmp.Ordering.{Ordering}
 use Rattle.std.specs.Cmp.Lexicographic.{pointwise, slice_cmp}
-use Rattle.vb_tree.specs.declared.path.PathError.{PathError}
-use Rattle.vb_tree.specs.declared.path.PathError.TheVariants.{Empty, NotAbsolute, LongPath, NotUtf8, BadByte, TrailingSlash, Deep, EmptyPart, DotPart, LongPart, Memory}
+use Rattle.vb_path.specs.declared.path.PathError.{PathError}
+use Rattle.vb_path.specs.declared.path.PathError.TheVariants.{Empty, NotAbsolute, LongPath, NotUtf8, BadByte, TrailingSlash, Deep, EmptyPart, DotPart, LongPart, Memory}
 
 -- the text of the parts: a slash before each, and a lone slash where there are none
 abbrev pub text_of_path : List (List ℕ) → List ℕ

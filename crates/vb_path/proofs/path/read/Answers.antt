@@ -1,8 +1,8 @@
 use Rattle.std.proofs.Common.{◌≡◌, length, drop, ap, ◌∙◌, subst, sym, arith}
 use Rattle.std.proofs.lemmas.Slice.{between_to_end}
-use Rattle.vb_tree.specs.Paths.{text_of_path, parts_after_slash, IsPath}
-use Rattle.vb_tree.proofs.ReadText.{text-read, IsPath-read}
-use Rattle.vb_tree.proofs.path.read.Goals as goal
+use Rattle.vb_path.specs.Paths.{text_of_path, parts_after_slash, IsPath}
+use Rattle.vb_path.proofs.ReadText.{text-read, IsPath-read}
+use Rattle.vb_path.proofs.path.read.Goals as goal
 
 pub invariant_of-result : goal.invariant_of-result
 invariant_of-result c =

@@ -4,9 +4,9 @@ use Rattle.std.proofs.lemmas.Bool.{false≢true}
 use Rattle.std.specs.Str.{IsUtf8}
 use Rattle.std.proofs.lemmas.Str.{utf8_valid_len-IsUtf8}
 use Rattle.std.proofs.lemmas.Bool.Decides.{nat_tests, eqb_tells}
-use Rattle.vb_tree.specs.declared.path.PathError.{PathError}
-use Rattle.vb_tree.specs.Paths.{pieces_of, text_of_path, fault_if, bad_utf8_in, fault_of, parts_after_slash, parts_unless, path_of, IsPath}
-use Rattle.vb_tree.proofs.Pieces.{text_of_path-pieces_of}
+use Rattle.vb_path.specs.declared.path.PathError.{PathError}
+use Rattle.vb_path.specs.Paths.{pieces_of, text_of_path, fault_if, bad_utf8_in, fault_of, parts_after_slash, parts_unless, path_of, IsPath}
+use Rattle.vb_path.proofs.Pieces.{text_of_path-pieces_of}
 
 -- no fault means that no test held
 pub fault_if-none : (test : Bool) (fault : PathError) (next : Option PathError) → fault_if test fault next ≡ None → (test ≡ false) × (next ≡ None)

@@ -1,6 +1,6 @@
 // The parser of paths: what is wrong with a text, and the pieces between its slashes.
 ghost use Rattle.std.specs.Prelude.{◌≡◌, ◌≤◌, ◌<◌, ◌+◌, [], ◌∷◌, ◌==◌, length, take, drop, count_by, position, MatchOption, IfOk};
-ghost use Rattle.vb_tree.specs.Paths.{pieces_of, part_fault_of, parts_fault_of, fault_after_slash, fault_of, bad_utf8_in, parts_after_slash};
+ghost use Rattle.vb_path.specs.Paths.{pieces_of, part_fault_of, parts_fault_of, fault_after_slash, fault_of, bad_utf8_in, parts_after_slash};
 
 use crate::{Bytes, Names, PathError};
 use std::alloc::{AllocError, Global};

@@ -8,7 +8,7 @@ use Rattle.std.specs.Ordering.{nat_cmp, is_lt, is_eq, eq_by_cmp, ordering_revers
 use Rattle.std.specs.Cmp.Lexicographic.{slice_cmp, lists_total, lists_ties, nat_list_cmp_total, texts_ties}
 use Rattle.std.proofs.lemmas.Slice.Eq.{slice_eq-Decides, bytes_eq-Decides}
 use Rattle.std.proofs.lemmas.Bool.{false≢true}
-use Rattle.vb_tree.specs.Paths.{same_path, path_cmp}
+use Rattle.vb_path.specs.Paths.{same_path, path_cmp}
 
 pub path_cmp-total : IsTotalOrder path_cmp
 path_cmp-total = lists_total nat_list_cmp_total

@@ -3,7 +3,7 @@ use Rattle.std.proofs.Common.{◌≡◌, ℕ, suc, ◌+◌, ◌<◌, Bool, true,
 use Rattle.std.specs.List.{position_or_len, flat_map}
 use Rattle.std.proofs.lemmas.Bool.Decides.{nat_tests, eqb_tells}
 use Rattle.std.proofs.lemmas.List.Sums.{sum_by-cons, count_by-le-length}
-use Rattle.vb_tree.specs.Paths.{pieces_of, with_byte, text_of_path}
+use Rattle.vb_path.specs.Paths.{pieces_of, with_byte, text_of_path}
 
 abbrev is_slash : ℕ → Bool
 is_slash b = b == 47

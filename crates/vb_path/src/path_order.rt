@@ -3,7 +3,7 @@ ghost use Rattle.std.specs.Prelude.{Some, refl};
 ghost use Rattle.std.specs.Cmp.{partial_equiv_from_equiv, po};
 ghost use Rattle.std.specs.Cmp.Lexicographic.{slice_cmp, lists_equiv, lists_total, lists_ties, nat_list_eq_equiv, nat_list_cmp_total, texts_ties};
 ghost use Rattle.std.specs.Ordering.{nat_cmp};
-ghost use Rattle.vb_tree.specs.Paths.{same_path, path_cmp};
+ghost use Rattle.vb_path.specs.Paths.{same_path, path_cmp};
 
 use crate::Path;
 use std::cmp::Ordering;

@@ -1,6 +1,6 @@
 // Paths: what a text of a path must be, and its parts.
 ghost use Rattle.std.specs.Prelude.{◌≡◌, IfOk, Ok, None};
-ghost use Rattle.vb_tree.specs.Paths.{IsDueFrom, path_of, text_of_path, fault_of};
+ghost use Rattle.vb_path.specs.Paths.{IsDueFrom, path_of, text_of_path, fault_of};
 
 use crate::parse::{fault_in, parts_past_slash};
 use crate::{Bytes, Names};
@@ -46,7 +46,7 @@ impl Model for Path {
 
     ghost Value = { List (List ℕ) };
 
-    ghost use Rattle.vb_tree.specs.Paths.{text_of_path, IsPath};
+    ghost use Rattle.vb_path.specs.Paths.{text_of_path, IsPath};
 
     ghost view = { λ a. a.parts };
 
@@ -109,7 +109,7 @@ fn read(alloc: Global, text: &[u8]) -> Result<Path, AllocError>
 }
 
 /// Equal names.
-pub(crate) fn copy_names(alloc: Global, names: &[Bytes]) -> Result<Names, AllocError>
+pub fn copy_names(alloc: Global, names: &[Bytes]) -> Result<Names, AllocError>
     ensures { IfOk result (λ copied. copied ≡ names.now) }
 {
     let mut copied = Names::new(alloc);

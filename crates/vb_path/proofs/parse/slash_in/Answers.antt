@@ -1,7 +1,7 @@
 use Rattle.std.proofs.Common.{◌≡◌, ◌+◌, ◌<◌, [], ◌∷◌, length, take, drop, MatchOption, subst, sym}
-use Rattle.vb_tree.specs.Paths.{pieces_of}
-use Rattle.vb_tree.proofs.Pieces.{pieces-position}
-use Rattle.vb_tree.proofs.parse.slash_in.Goals as goal
+use Rattle.vb_path.specs.Paths.{pieces_of}
+use Rattle.vb_path.proofs.Pieces.{pieces-position}
+use Rattle.vb_path.proofs.parse.slash_in.Goals as goal
 
 pub returns : goal.returns
 returns c =

@@ -1,5 +1,5 @@
 use Rattle.std.proofs.Common.{◌≡◌, take}
-use Rattle.vb_tree.proofs.path.copy_names.Given as goal
+use Rattle.vb_path.proofs.path.copy_names.Given as goal
 
 abbrev pub invariant-loop-name : goal.invariant-loop-name
 invariant-loop-name l = l.copied ≡ take l.name-index l.names

@@ -1,0 +1,3 @@
+pub mod PathLaws
+pub mod Pieces
+pub mod ReadText

@@ -1,0 +1,18 @@
+// Paths: which texts are paths, their parts, and their order.
+#![tactic(auto)]
+
+mod parse;
+mod path;
+mod path_order;
+
+pub use path::{copy_names, Path, PathError};
+use vb_list::Items;
+
+/// A list of bytes.
+pub type Bytes = Items<u8>;
+
+/// A list of names, each a list of bytes.
+pub type Names = Items<Bytes>;
+
+#[cfg(test)]
+mod tests;
