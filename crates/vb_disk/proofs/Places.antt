@@ -1,9 +1,11 @@
 -- How the map of places changes, and that what a table keeps is kept.
-use Rattle.std.proofs.Common.{◌≡◌, ◌≢◌, ℕ, ◌<◌, Bool, true, false, cond, ◌||◌, eqb, ltb, nat_eq, List, [], length, Option, Some, None, Result, Ok, Err, OnOk, OnErr, is_some, unwrap_or, refl, sym, ap, subst, ◌∙◌, inl, inr, arith}
-use Rattle.std.specs.List.{list_any, All}
+use Rattle.std.proofs.Common.{◌≡◌, ◌≢◌, ℕ, ◌<◌, Bool, true, false, cond, ◌||◌, ◌&&◌, eqb, ltb, nat_eq, List, [], length, Option, Some, None, Result, Ok, Err, OnOk, OnErr, is_some, unwrap_or, refl, sym, ap, subst, ◌∙◌, inl, inr, arith}
+use Rattle.std.specs.List.{filter, list_any, All}
 use Rattle.std.specs.Ordering.{nat_cmp}
 use Rattle.std.specs.BTreeMap.{BTreeMap, get}
 use Rattle.std.proofs.lemmas.Bool.{cases_eq, cases_lt, cases_Bool, cond-true, cond-false, eq-eqb, ne_eqb, lt-ltb, le-ltb, or_cases, or_left, or_right}
+use Rattle.std.proofs.lemmas.Bool.Decides.{nat_tests}
+use Rattle.std.proofs.lemmas.Map.Views.{any-filter_same}
 use Rattle.std.proofs.lemmas.List.{get_or_past}
 use Rattle.std.proofs.lemmas.List.Elements.{All-nil, All-cons}
 use Rattle.sha2.specs.Sha256.{sha256}
@@ -100,11 +102,22 @@ cell_in-cut old new blocks place cut = elim (cases_lt place blocks) [
   | inr past ↦ ap (λ (o : Option Cell). unwrap_or o blank_cell) (cut ∙ cond-false (ltb place blocks) (get nat_cmp old place) None (le-ltb place blocks past)) ∙ sym (cond-false (ltb place blocks) (cell_in old place) blank_cell (le-ltb place blocks past))
 ]
 
-pub IsTable-cut : (size blocks : ℕ) (old new : BTreeMap ℕ Cell) (listed : List ℕ) → IsTable size old listed → ((place : ℕ) → get nat_cmp new place ≡ cond (ltb place blocks) (get nat_cmp old place) None) → IsTable blocks new listed
-IsTable-cut size blocks old new listed was cut = record {
+same_from_nat_eq : (q k : ℕ) → nat_eq q k ≡ true → q ≡ k
+same_from_nat_eq q k equal = grind (arith, nat_tests)
+
+-- of the list, the places below the cut are left
+listed-cut : (blocks place : ℕ) (listed : List ℕ) → list_any (nat_eq place) (filter (λ p. ltb p blocks) listed) ≡ (ltb place blocks && list_any (nat_eq place) listed)
+listed-cut blocks place listed =
+    any-filter_same (nat_eq place) (λ p. ltb p blocks) (ltb place blocks) (λ k is. ap (λ (n : ℕ). ltb n blocks) (sym (same_from_nat_eq place k is))) listed
+
+pub IsTable-cut : (size blocks : ℕ) (old new : BTreeMap ℕ Cell) (before after : List ℕ) → IsTable size old before → ((place : ℕ) → get nat_cmp new place ≡ cond (ltb place blocks) (get nat_cmp old place) None) → after ≡ filter (λ p. ltb p blocks) before → IsTable blocks new after
+IsTable-cut size blocks old new before after was cut left = record {
   inside = λ place past. ap is_some (cut place ∙ cond-false (ltb place blocks) (get nat_cmp old place) None (le-ltb place blocks past));
-  all_listed = λ place. subst (λ c. (is_settled c || list_any (nat_eq place) listed) ≡ true) (sym (cell_in-cut old new blocks place (cut place)))
-      (elim (ltb place blocks) as (λ b. (is_settled (cond b (cell_in old place) blank_cell) || list_any (nat_eq place) listed) ≡ true) [ true ↦ was.all_listed place | false ↦ refl ]);
+  all_listed = λ place.
+      let found = ap (list_any (nat_eq place)) left ∙ listed-cut blocks place before in
+      subst (λ (l : Bool). (is_settled (cell_in new place) || l) ≡ true) (sym found)
+      (subst (λ c. (is_settled c || (ltb place blocks && list_any (nat_eq place) before)) ≡ true) (sym (cell_in-cut old new blocks place (cut place)))
+      (elim (ltb place blocks) as (λ b. (is_settled (cond b (cell_in old place) blank_cell) || (b && list_any (nat_eq place) before)) ≡ true) [ true ↦ was.all_listed place | false ↦ refl ]));
   misses = λ place. subst ReadsAsMiss (sym (cell_in-cut old new blocks place (cut place)))
       (elim (ltb place blocks) as (λ b. ReadsAsMiss (cond b (cell_in old place) blank_cell)) [ true ↦ was.misses place | false ↦ ReadsAsMiss-blank ]);
 }

@@ -1,7 +1,7 @@
 // The places of a disk that hold something else than zeros, as a map from their numbers. A place that isn't
 // there is blank.
 ghost use Rattle.std.specs.Prelude.{◌≡◌, ◌≤◌, [], ℕ, None, true, false, OnOk, OnErr, nat_eq, nat_lt, is_some, if◌then◌else◌, length};
-ghost use Rattle.std.specs.List.{list_any};
+ghost use Rattle.std.specs.List.{filter, list_any};
 ghost use Rattle.std.specs.Ordering.{nat_cmp};
 ghost use Rattle.std.specs.BTreeMap.{get};
 ghost use Rattle.vb_disk.specs.Cells.{blank_cell, settled_cell, picked_cell, written_cell, hurt_cell, is_settled};
@@ -109,6 +109,13 @@ pub(crate) fn cut(cells: &mut BTreeMap<u32, Cell>, blocks: u32)
     ensures { (place : ℕ) → get nat_cmp cells.new place ≡ (if nat_lt place blocks then get nat_cmp cells.old place else None) }
 {
     cells.retain(|place, _| *place < blocks);
+}
+
+/// Takes all places from this one on off the list.
+pub(crate) fn unlist(listed: &mut Vec<u32>, blocks: u32)
+    ensures { listed.new.items ≡ filter (λ place. nat_lt place blocks) listed.old.items }
+{
+    listed.retain(|place| *place < blocks);
 }
 
 // A candidate more for a place that is there.

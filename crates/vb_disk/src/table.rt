@@ -66,6 +66,7 @@ impl Table {
         ensures size { self.new.size ≡ blocks }
     {
         cells::cut(&mut self.cells, blocks);
+        cells::unlist(&mut self.listed, blocks);
         self.size = blocks;
     }
 
