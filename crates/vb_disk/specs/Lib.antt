@@ -2,7 +2,6 @@ pub mod Causes
 pub mod Cells
 pub mod Misses
 pub mod Crashes
-pub mod Failing
 pub mod Logs
 pub mod Memory
 pub mod MemoryLogs

@@ -1,10 +1,10 @@
 -- What a disk in memory tells of itself, and which of its calls fail.
-use Rattle.std.specs.Prelude.{◌≡◌, ◌↔◌, ℕ, Bool, if◌then◌else◌, List, is_some, IsSome, Result, IsErrOf}
+use Rattle.std.specs.Prelude.{◌≡◌, ◌↔◌, ℕ, Bool, true, if◌then◌else◌, List, Option, Some, None, is_some, IsSome, Result, IsErrOf}
 use Rattle.vb_disk.specs.declared.disk_error.DiskError.{DiskError}
 use Rattle.vb_disk.specs.declared.disk_error.DiskError.TheVariants.{Failed}
-use Rattle.vb_disk.specs.declared.failures.Failure.{Failure}
+use Rattle.vb_failures.specs.declared.failures.Failure.{Failure}
 use Rattle.vb_disk.specs.declared.memory_disk.MemoryDisk.{MemoryDisk}
-use Rattle.vb_disk.specs.Failing.{due_of, passed}
+use Rattle.vb_failures.specs.Failing.{due_of, passed}
 use Rattle.vb_disk.specs.Sparse.{state_from}
 use Rattle.vb_disk.specs.States.{DiskState, counted}
 
@@ -15,6 +15,11 @@ state_of m = state_from m.table.size m.table.cells m.writes m.syncs
 -- the calls that are to fail. A failure says whether a write is made all the same.
 abbrev pub failures_of : MemoryDisk → List (Failure Bool)
 failures_of m = m.fails
+
+-- whether a write is made: where it doesn't fail, or fails after it was made
+abbrev pub is_made : Option Bool → Bool
+is_made None = true
+is_made (Some after) = after
 
 -- how often a call failed
 abbrev pub faults_of : MemoryDisk → ℕ

@@ -1,10 +1,10 @@
 -- What a log in memory holds, and which of its calls fail.
 use Rattle.std.specs.Prelude.{◌≡◌, ◌↔◌, ℕ, if◌then◌else◌, List, take, Option, Some, None, is_some, IsSome, Result, Ok, Err, IsErrOf}
-use Rattle.vb_disk.specs.declared.failures.Failure.{Failure}
+use Rattle.vb_failures.specs.declared.failures.Failure.{Failure}
 use Rattle.vb_disk.specs.declared.log_file.LogError.{LogError}
 use Rattle.vb_disk.specs.declared.log_file.LogError.TheVariants.{Failed, Memory}
 use Rattle.vb_disk.specs.declared.memory_log.MemoryLog.{MemoryLog}
-use Rattle.vb_disk.specs.Failing.{due_of, passed}
+use Rattle.vb_failures.specs.Failing.{due_of, passed}
 use Rattle.vb_disk.specs.States.{counted}
 
 -- the bytes

@@ -1,8 +1,8 @@
 // The calls of a disk in memory. They say of its state what a disk promises of a told one, and exactly when they fail.
 ghost use Rattle.std.specs.Prelude.{◌≡◌, ◌<◌, Some, if◌then◌else◌, IfOk, OnOk, OnErr, IsErrOf};
 ghost use Rattle.vb_disk.specs.Causes.{HasCause, UnlessMemory};
-ghost use Rattle.vb_disk.specs.Failing.{due_of, is_made};
-ghost use Rattle.vb_disk.specs.Memory.{state_of, failures_of, faults_of, FailsAsListed, IsUntouched};
+ghost use Rattle.vb_failures.specs.Failing.{due_of};
+ghost use Rattle.vb_disk.specs.Memory.{is_made, state_of, failures_of, faults_of, FailsAsListed, IsUntouched};
 ghost use Rattle.vb_disk.specs.States.{read_at, written, synced, resized};
 ghost use Rattle.vb_disk.specs.Valid.{IsDiskState-state_of};
 

@@ -1,10 +1,11 @@
 // A disk in memory that does what a disk may do, fails where it was told to, and crashes when it is asked to.
 ghost use Rattle.std.specs.Prelude.{◌≡◌, ◌+◌, min};
 
+use crate::DiskError;
 use crate::table::Table;
-use crate::{DiskError, Failures};
 use std::alloc::{AllocError, Global};
 use vb_block::Page;
+use vb_failures::Failures;
 
 /// A disk in memory. It keeps the candidates of each place that was ever written, and no page for the others.
 #[derive(Drop)]
@@ -20,7 +21,7 @@ impl MemoryDisk {
     ghost use Rattle.std.specs.Prelude.{◌≡◌, ◌<◌, ◌≤◌, ◌++◌, [], min, length, IfOk, OnOk, OnErr, IsErrOf};
     ghost use Rattle.vb_disk.specs.Causes.{HasCause};
     ghost use Rattle.vb_disk.specs.Cells.{candidates};
-    ghost use Rattle.vb_disk.specs.Failing.{with_failure};
+    ghost use Rattle.vb_failures.specs.Failing.{with_failure};
     ghost use Rattle.vb_disk.specs.Memory.{state_of, failures_of, faults_of, FailsAsListed};
     ghost use Rattle.vb_disk.specs.States.{new_state, written};
 

@@ -1,11 +1,12 @@
 // A log in memory, which fails where it was told to.
 ghost use Rattle.std.specs.Prelude.{◌≡◌, min, [], Some, length, take, drop, ◌++◌, ◌-◌, option_map, IfOk, OnOk, OnErr, IsErrOf};
 ghost use Rattle.vb_disk.specs.Causes.{HasCause};
-ghost use Rattle.vb_disk.specs.Failing.{due_of, with_failure};
+ghost use Rattle.vb_failures.specs.Failing.{due_of, with_failure};
 ghost use Rattle.vb_disk.specs.MemoryLogs.{bytes_of, log_failures_of, log_faults_of, LogFailsAsListed, IsLogUntouched, UnlessNoMemory, appended_part};
 
-use crate::{Failures, LogError, LogFile};
+use crate::{LogError, LogFile};
 use std::alloc::{AllocError, Global};
+use vb_failures::Failures;
 
 /// A log in memory.
 #[derive(Drop)]

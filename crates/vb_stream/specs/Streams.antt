@@ -1,18 +1,9 @@
 -- What one read or write does, and what many of them do in a row.
-use Rattle.std.specs.Prelude.{◌≡◌, ℕ, ◌-◌, ◌<◌, ◌≤◌, Bool, false, ◌==◌, List, [], ◌++◌, length, take, drop, map, Option, Some, Result, Ok, Err}
-use Rattle.std.specs.List.{list_any}
+use Rattle.std.specs.Prelude.{◌≡◌, ℕ, ◌<◌, ◌≤◌, Bool, false, List, [], ◌++◌, length, take, drop, Option, Some, Result, Ok, Err}
 use Rattle.vb_stream.specs.declared.source.SourceFault.{SourceFault}
 use Rattle.vb_stream.specs.declared.whole.ReadError.{ReadError}
 use Rattle.vb_stream.specs.declared.sink.SinkError.{SinkError}
 use Rattle.vb_stream.specs.declared.sink.SinkError.TheVariants.{Failed, Memory}
-
--- whether the next call is listed: 1 names it, 2 the one after it, and so on
-abbrev pub is_next_listed : List ℕ → Bool
-is_next_listed listed = list_any (λ nth. nth == 1) listed
-
--- the listed calls after one call was made; 0 names no call
-abbrev pub listed_after_call : List ℕ → List ℕ
-listed_after_call listed = map (λ nth. nth - 1) listed
 
 -- a read of a buffer of this size took bytes from the front of what was left: none only where nothing is left or the
 -- buffer is empty. A fault takes none

@@ -1,13 +1,14 @@
 // Sinks of bytes.
-ghost use Rattle.std.specs.Prelude.{◌≡◌, ◌-◌, ◌+◌, ℕ, ◌≤◌, ◌<◌, List, [], ◌∷◌, ◌++◌, length, Some, None, Option, IfOk, IsOk, IsErr, Err, IsTrue, ◌↔◌, OnOk, OnErr};
+ghost use Rattle.std.specs.Prelude.{◌≡◌, ◌-◌, ◌+◌, ℕ, ◌≤◌, ◌<◌, List, [], ◌∷◌, ◌++◌, length, Some, None, Option, IfOk, IsOk, IsErr, Err, IsSome, ◌↔◌, OnOk, OnErr};
 ghost use Rattle.vb_cause.specs.Faults.{HasRisen};
-ghost use Rattle.vb_stream.specs.Streams.{TakesPiece, is_next_listed, listed_after_call};
+ghost use Rattle.vb_failures.specs.Failing.{due_of, passed, with_failure};
+ghost use Rattle.vb_stream.specs.Streams.{TakesPiece};
 ghost use Rattle.vb_stream.specs.declared.sink.SinkError.{SinkError};
 
-use crate::ListedCalls;
 use std::alloc::{AllocError, Global};
 use std::marker::Model;
 use vb_cause::raised;
+use vb_failures::Failures;
 use vb_list::Items;
 
 /// Why a write took less than it was given.
@@ -44,7 +45,7 @@ pub trait Sink {
 #[derive(Debug, Drop)]
 pub struct MemorySink {
     bytes: Items<u8>,
-    fails: ListedCalls,
+    fails: Failures<()>,
     faults: u64,
     shortages: u64,
 }
@@ -64,7 +65,7 @@ impl MemorySink {
     {
         MemorySink {
             bytes: Items::new(alloc),
-            fails: ListedCalls::new(alloc),
+            fails: Failures::new(alloc),
             faults: 0,
             shortages: 0,
         }
@@ -79,10 +80,10 @@ impl MemorySink {
 
     /// Lists the nth write from now, counted from 1, to fail. 0 names no call.
     pub fn fail_call(&mut self, nth: u32) -> Result<(), AllocError>
-        ensures ok { OnOk result (self.new ≡ record self.old { listed = self.old.listed ++ nth ∷ [] }) }
+        ensures ok { OnOk result (self.new ≡ record self.old { listed = with_failure self.old.listed nth tt }) }
         ensures err { OnErr result (self.new ≡ self.old) }
     {
-        self.fails.list(nth)
+        self.fails.add(nth, ())
     }
 }
 
@@ -103,13 +104,15 @@ impl Sink for MemorySink {
         ensures shortages_kept { self.old.shortages ≤ self.new.shortages }
 
         // It fails exactly where the call is listed, takes nothing then, and else takes the whole piece.
-        ensures listed { (result ≡ Err SinkError.Failed) ↔ IsTrue (is_next_listed self.old.listed) }
-        ensures counted { self.new.listed ≡ listed_after_call self.old.listed }
+        ensures listed { (result ≡ Err SinkError.Failed) ↔ IsSome (due_of self.old.listed) }
+        ensures counted { self.new.listed ≡ passed self.old.listed }
         ensures whole { IfOk result (λ n. n ≡ length piece.now) }
         ensures nothing { IsErr result → self.new.written ≡ self.old.written }
         ensures no_fault { IsOk result → self.new.faults ≡ self.old.faults }
     {
-        if self.fails.count() {
+        let due = self.fails.due();
+        self.fails.pass();
+        if due.is_some() {
             self.faults = raised(self.faults);
             return Err(SinkError::Failed);
         }

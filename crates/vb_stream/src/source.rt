@@ -1,12 +1,13 @@
 // Sources of bytes.
-ghost use Rattle.std.specs.Prelude.{◌≡◌, ◌-◌, ◌+◌, ℕ, ◌≤◌, ◌<◌, List, [], ◌∷◌, ◌++◌, length, Some, None, Option, IfOk, IsOk, IsErr, IsTrue, ◌↔◌, OnOk, OnErr, take, drop, min};
+ghost use Rattle.std.specs.Prelude.{◌≡◌, ◌-◌, ◌+◌, ℕ, ◌≤◌, ◌<◌, List, [], ◌∷◌, ◌++◌, length, Some, None, Option, IfOk, IsOk, IsErr, IsSome, ◌↔◌, OnOk, OnErr, take, drop, min};
 ghost use Rattle.vb_cause.specs.Faults.{HasRisen};
-ghost use Rattle.vb_stream.specs.Streams.{TakesFront, is_next_listed, listed_after_call};
+ghost use Rattle.vb_failures.specs.Failing.{due_of, passed, with_failure};
+ghost use Rattle.vb_stream.specs.Streams.{TakesFront};
 
-use crate::ListedCalls;
 use std::alloc::{AllocError, Global};
 use std::marker::Model;
 use vb_cause::raised;
+use vb_failures::Failures;
 use vb_list::Items;
 
 /// A read failed.
@@ -34,7 +35,7 @@ pub trait Source {
 pub struct MemorySource {
     bytes: Items<u8>,
     at: usize,
-    fails: ListedCalls,
+    fails: Failures<()>,
     faults: u64,
 }
 
@@ -57,18 +58,18 @@ impl MemorySource {
         MemorySource {
             bytes,
             at: 0,
-            fails: ListedCalls::new(alloc),
+            fails: Failures::new(alloc),
             faults: 0,
         }
     }
 
     /// Lists the nth read from now, counted from 1, to fail. 0 names no call.
     pub fn fail_call(&mut self, nth: u32) -> Result<(), AllocError>
-        ensures ok { OnOk result (self.new ≡ record self.old { listed = self.old.listed ++ nth ∷ [] }) }
+        ensures ok { OnOk result (self.new ≡ record self.old { listed = with_failure self.old.listed nth tt }) }
         ensures err { OnErr result (self.new ≡ self.old) }
     {
         let _ = self.at;
-        self.fails.list(nth)
+        self.fails.add(nth, ())
     }
 }
 
@@ -84,12 +85,14 @@ impl Source for MemorySource {
         ensures kept { self.old.faults ≤ self.new.faults }
 
         // It fails exactly where the call is listed, and takes all that the buffer has room for.
-        ensures listed { IsErr result ↔ IsTrue (is_next_listed self.old.listed) }
-        ensures counted { self.new.listed ≡ listed_after_call self.old.listed }
+        ensures listed { IsErr result ↔ IsSome (due_of self.old.listed) }
+        ensures counted { self.new.listed ≡ passed self.old.listed }
         ensures full { IfOk result (λ n. n ≡ min (length into.old) (length self.old.left)) }
         ensures no_fault { IsOk result → self.new.faults ≡ self.old.faults }
     {
-        if self.fails.count() {
+        let due = self.fails.due();
+        self.fails.pass();
+        if due.is_some() {
             self.faults = raised(self.faults);
             return Err(SourceFault);
         }

@@ -1,9 +1,9 @@
 use Rattle.std.proofs.Common.{◌≡◌, List, map, ltb, rules, ap, ◌∙◌}
 use Rattle.std.specs.List.{filter}
 use Rattle.std.proofs.lemmas.List.Elements.{filter_from_retain}
-use Rattle.vb_disk.specs.declared.failures.Failure.{Failure}
-use Rattle.vb_disk.specs.Failing.{nearer, passed}
-use Rattle.vb_disk.proofs.failures.Failures.pass.Goals as goal
+use Rattle.vb_failures.specs.declared.failures.Failure.{Failure}
+use Rattle.vb_failures.specs.Failing.{nearer, passed}
+use Rattle.vb_failures.proofs.failures.Failures.pass.Goals as goal
 
 passed_from : {T : Type 0} (seen before kept after : List (Failure T)) → before ≡ seen → kept ≡ filter (λ f. ltb 1 f.nth) before → after ≡ map nearer kept → after ≡ passed seen
 passed_from seen before kept after same filtered mapped =

@@ -1,7 +1,7 @@
 -- Calls that are to fail, in the order in which they were listed.
-use Rattle.std.specs.Prelude.{ℕ, Bool, true, ◌-◌, nat_lt, ◌==◌, if◌then◌else◌, List, [], ◌∷◌, ◌++◌, map, Option, Some, None}
+use Rattle.std.specs.Prelude.{ℕ, ◌-◌, nat_lt, ◌==◌, if◌then◌else◌, List, [], ◌∷◌, ◌++◌, map, Option, Some, None}
 use Rattle.std.specs.List.{filter}
-use Rattle.vb_disk.specs.declared.failures.Failure.{Failure}
+use Rattle.vb_failures.specs.declared.failures.Failure.{Failure}
 
 -- how the next call fails: the first that is listed for it counts
 abbrev pub due_of : {T : Type 0} → List (Failure T) → Option T
@@ -19,8 +19,3 @@ passed fs = map nearer (filter (λ f. nat_lt 1 f.nth) fs)
 -- with one more at the end; a call 0 is none
 abbrev pub with_failure : {T : Type 0} → List (Failure T) → ℕ → T → List (Failure T)
 with_failure fs nth how = if nth == 0 then fs else fs ++ record { nth = nth; how = how } ∷ []
-
--- whether a write is made: where it doesn't fail, or fails after it was made
-abbrev pub is_made : Option Bool → Bool
-is_made None = true
-is_made (Some after) = after

@@ -1,6 +1,6 @@
 // Calls that are to fail, as a test or a schedule lists them.
 ghost use Rattle.std.specs.Prelude.{◌≡◌, List, [], map, OnOk, OnErr};
-ghost use Rattle.vb_disk.specs.Failing.{due_of, nearer, passed, with_failure};
+ghost use Rattle.vb_failures.specs.Failing.{due_of, nearer, passed, with_failure};
 
 use std::alloc::{AllocError, Global};
 use std::marker::Model;
@@ -23,7 +23,7 @@ pub struct Failures<T> {
 
 impl<T> Model for Failures<T> {
     ghost use Rattle.std.specs.Prelude.{List};
-    ghost use Rattle.vb_disk.specs.declared.failures.Failure.{Failure};
+    ghost use Rattle.vb_failures.specs.declared.failures.Failure.{Failure};
 
     ghost Value = { List (Failure T) };
 
