@@ -34,6 +34,7 @@ pub trait Sink {
         ensures count { IfOk result (λ n. n ≤ length piece.now) }
         ensures progress { 0 < length piece.now → IfOk result (λ n. 0 < n) }
         ensures taken { (before : List ℕ) → written self.old ≡ Some before → TakesPiece before piece.now result (written self.new) }
+        ensures untold { written self.old ≡ None → written self.new ≡ None }
         ensures failed { result ≡ Err SinkError.Failed → HasRisen (faults self.old) (faults self.new) }
         ensures memory { result ≡ Err SinkError.Memory → HasRisen (shortages self.old) (shortages self.new) }
         ensures faults_kept { faults self.old ≤ faults self.new }

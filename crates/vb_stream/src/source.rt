@@ -25,6 +25,7 @@ pub trait Source {
     fn read(&mut self, into: &mut [u8]) -> Result<usize, SourceFault>
         ensures count { IfOk result (λ n. n ≤ length into.old) }
         ensures taken { (bytes : List ℕ) → left self.old ≡ Some bytes → TakesFront bytes result into.new (left self.new) }
+        ensures untold { left self.old ≡ None → left self.new ≡ None }
         ensures cause { IsErr result → HasRisen (faults self.old) (faults self.new) }
         ensures kept { faults self.old ≤ faults self.new };
 }

@@ -1,5 +1,5 @@
 // Many reads and writes in a row: a source's front, and a whole text.
-ghost use Rattle.std.specs.Prelude.{◌≡◌, ℕ, ◌+◌, ◌-◌, ◌≤◌, ◌<◌, List, [], ◌∷◌, ◌++◌, length, take, drop, Some, Err, IfOk, IsErr, true};
+ghost use Rattle.std.specs.Prelude.{◌≡◌, ℕ, ◌+◌, ◌-◌, ◌≤◌, ◌<◌, List, [], ◌∷◌, ◌++◌, length, take, drop, Some, None, Err, IfOk, IsErr, true};
 ghost use Rattle.vb_stream.specs.declared.whole.TheConstants.{BUFFER};
 ghost use Rattle.vb_cause.specs.Faults.{HasRisen};
 ghost use Rattle.vb_stream.specs.Streams.{WritesWhole, TakesFront, HasGot, GetsMore, GetsFront};
@@ -22,6 +22,7 @@ const BUFFER: usize = 4096;
 /// Writes a whole text, in as many writes as the sink takes. Nothing is written after an error.
 pub fn write_whole<O: Sink>(sink: &mut O, text: &[u8]) -> Result<(), SinkError>
     ensures written { (before : List ℕ) → O.written sink.old ≡ Some before → WritesWhole before text.now result (O.written sink.new) }
+    ensures untold { O.written sink.old ≡ None → O.written sink.new ≡ None }
     ensures failed { result ≡ Err SinkError.Failed → HasRisen (O.faults sink.old) (O.faults sink.new) }
     ensures memory { result ≡ Err SinkError.Memory → HasRisen (O.shortages sink.old) (O.shortages sink.new) }
     ensures faults_kept { O.faults sink.old ≤ O.faults sink.new }
@@ -44,6 +45,7 @@ pub fn read_front<S: Source>(
     most: usize,
 ) -> Result<Items<u8>, ReadError>
     ensures read { (bytes : List ℕ) → S.left source.old ≡ Some bytes → GetsFront most bytes result (S.left source.new) }
+    ensures untold { S.left source.old ≡ None → S.left source.new ≡ None }
     ensures short { IfOk result (λ got. length got ≤ most) }
     ensures fault { result ≡ Err ReadError.Fault → HasRisen (S.faults source.old) (S.faults source.new) }
     ensures kept { S.faults source.old ≤ S.faults source.new }
@@ -69,6 +71,7 @@ fn read_more<S: Source>(
 ) -> Result<bool, ReadError>
     requires { length got.old < most }
     ensures more { (bytes : List ℕ) → HasGot bytes got.old (S.left source.old) → GetsMore most bytes result got.new (S.left source.new) }
+    ensures untold { S.left source.old ≡ None → S.left source.new ≡ None }
     ensures short { length got.new ≤ most }
     ensures longer { IfOk result (λ more. more ≡ true → length got.old < length got.new) }
     ensures fault { result ≡ Err ReadError.Fault → HasRisen (S.faults source.old) (S.faults source.new) }
@@ -96,6 +99,7 @@ fn read_some<S: Source>(
     requires within { room ≤ BUFFER }
     ensures count { IfOk result (λ n. n ≤ room) }
     ensures taken { (bytes : List ℕ) → S.left source.old ≡ Some bytes → TakesFront bytes result (take room buffer.new) (S.left source.new) }
+    ensures untold { S.left source.old ≡ None → S.left source.new ≡ None }
     ensures cause { IsErr result → HasRisen (S.faults source.old) (S.faults source.new) }
     ensures kept { S.faults source.old ≤ S.faults source.new }
 {

@@ -6,6 +6,7 @@ use Rattle.vb_stream.proofs.whole.read_front.Goals.{else-loop-buffer-test, then-
 pub loop-buffer-preserved : goal.loop-buffer-preserved
 loop-buffer-preserved g c = record {
   front = λ bytes told. (c.in-Ok-true.ensures.more bytes (c.loop-buffer.invariant.front bytes told)).0;
+  untold = λ none. c.read_more.ensures.untold (c.loop-buffer.invariant.untold none);
   short = omega (arith, c.read_more.ensures.short);
   faults = omega (arith, c.loop-buffer.invariant.faults, c.read_more.ensures.kept);
 }

@@ -6,6 +6,7 @@ pub loop-rest-preserved : goal.loop-rest-preserved
 loop-rest-preserved g c = record {
   written = λ before told.
       rw c.split_at.ensures.back (front-more before c.args.text.now c.loop-rest.rest.now _ _ c.in-Ok.count (c.loop-rest.invariant.written before told) c.in-Ok.ensures.taken);
+  untold = λ none. c.write.ensures.untold (c.loop-rest.invariant.untold none);
   faults = omega (arith, c.loop-rest.invariant.faults, c.write.ensures.faults_kept);
   shortages = omega (arith, c.loop-rest.invariant.shortages, c.write.ensures.shortages_kept);
 }
