@@ -1,5 +1,5 @@
 // A disk kept in a file.
-ghost use Rattle.std.specs.Prelude.{◌≡◌, None, IfOk, IsErrOf};
+ghost use Rattle.std.specs.Prelude.{◌≡◌, None, string_bytes, IfOk, IsErrOf};
 ghost use Rattle.vb_disk.specs.Causes.{HasCause};
 ghost use Rattle.vb_edge.specs.Untold.{nothing_is_told};
 
@@ -26,6 +26,7 @@ impl<R: Files<File = File> + Drop> FileDisk<R> {
     pub fn at(alloc: Global, files: R, name: &str) -> Result<FileDisk<R>, AllocError>
         ensures seen { IfOk result (λ disk. disk.blocks ≡ 0) }
         ensures faults { IfOk result (λ disk. disk.kept.faults ≡ 0) }
+        ensures named { IfOk result (λ disk. string_bytes disk.kept.name ≡ name.now) }
     {
         let kept = LateFile::at(alloc, files, name)?;
         Ok(FileDisk { kept, blocks: 0 })

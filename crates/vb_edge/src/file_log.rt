@@ -1,5 +1,5 @@
 // A log kept in a file.
-ghost use Rattle.std.specs.Prelude.{◌≡◌, ◌≤◌, None, length, IfOk, IfSome, IsErrOf};
+ghost use Rattle.std.specs.Prelude.{◌≡◌, ◌≤◌, None, length, string_bytes, IfOk, IfSome, IsErrOf};
 ghost use Rattle.vb_disk.specs.Causes.{HasCause};
 
 use crate::late_file::LateFile;
@@ -17,7 +17,8 @@ pub struct FileLog<R> {
 impl<R: Files<File = File> + Drop> FileLog<R> {
     /// A log in the file of this name.
     pub fn at(alloc: Global, files: R, name: &str) -> Result<FileLog<R>, AllocError>
-        ensures { IfOk result (λ log. log.kept.faults ≡ 0) }
+        ensures faults { IfOk result (λ log. log.kept.faults ≡ 0) }
+        ensures named { IfOk result (λ log. string_bytes log.kept.name ≡ name.now) }
     {
         let kept = LateFile::at(alloc, files, name)?;
         Ok(FileLog { kept })

@@ -1,5 +1,5 @@
 // A file that is opened or made when it is first asked for.
-ghost use Rattle.std.specs.Prelude.{◌≡◌, ◌≤◌, IfOk};
+ghost use Rattle.std.specs.Prelude.{◌≡◌, ◌≤◌, string_bytes, IfOk};
 ghost use Rattle.vb_cause.specs.Faults.{HasRisen};
 
 use std::alloc::{AllocError, Global};
@@ -17,7 +17,8 @@ pub(crate) struct LateFile<R> {
 
 impl<R: Files<File = File> + Drop> LateFile<R> {
     pub(crate) fn at(alloc: Global, files: R, name: &str) -> Result<LateFile<R>, AllocError>
-        ensures { IfOk result (λ late. late.faults ≡ 0) }
+        ensures faults { IfOk result (λ late. late.faults ≡ 0) }
+        ensures named { IfOk result (λ late. string_bytes late.name ≡ name.now) }
     {
         let name = String::from_str(alloc, name)?;
         Ok(LateFile {
@@ -30,7 +31,8 @@ impl<R: Files<File = File> + Drop> LateFile<R> {
 
     /// Opens or makes the file, if it isn't open yet. Where that fails there is none, and it is tried again.
     pub(crate) fn open(&mut self)
-        ensures { self.new.faults ≡ self.old.faults }
+        ensures faults { self.new.faults ≡ self.old.faults }
+        ensures named { self.new.name ≡ self.old.name }
     {
         if self.file.is_none() {
             let mut how = OpenOptions::new();
@@ -43,6 +45,7 @@ impl<R: Files<File = File> + Drop> LateFile<R> {
     pub(crate) fn count(&mut self)
         ensures rose { HasRisen self.old.faults self.new.faults }
         ensures kept { self.old.faults ≤ self.new.faults }
+        ensures named { self.new.name ≡ self.old.name }
     {
         self.faults = raised(self.faults);
     }

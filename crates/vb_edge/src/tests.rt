@@ -3,7 +3,7 @@ use super::*;
 use std::fs;
 use std::test::Fail;
 use vb_block::Page;
-use vb_disk::{Disk, DiskError, LogFile};
+use vb_disk::{Disk, DiskError, LogError, LogFile};
 
 #[test]
 fn a_disk_is_kept_in_a_file(rt: HostRuntime) -> Result<(), Fail> {
@@ -26,6 +26,7 @@ fn a_disk_is_kept_in_a_file(rt: HostRuntime) -> Result<(), Fail> {
     let mut nowhere = FileDisk::at(alloc, rt, "no_such_folder/disk")?;
     assert_eq!(rt; nowhere.size(), Err(DiskError::Failed));
     assert_eq!(rt; nowhere.sync(), Err(DiskError::Failed));
+    assert_eq!(rt; nowhere.resize(1), Err(DiskError::Failed));
     Ok(())
 }
 
@@ -43,6 +44,13 @@ fn a_log_is_kept_in_a_file(rt: HostRuntime) -> Result<(), Fail> {
     assert_eq!(rt; into, [3, 4]);
     log.cut(1)?;
     assert_eq!(rt; log.len()?, 1);
+    assert_eq!(rt; log.read_at(1, &mut into)?, 0);
     fs::remove_file(&rt, name)?;
+    let mut nowhere = FileLog::at(alloc, rt, "no_such_folder/log")?;
+    assert_eq!(rt; nowhere.len(), Err(LogError::Failed));
+    assert_eq!(rt; nowhere.read_at(0, &mut into), Err(LogError::Failed));
+    assert_eq!(rt; nowhere.append(&[1]), Err(LogError::Failed));
+    assert_eq!(rt; nowhere.cut(0), Err(LogError::Failed));
+    assert_eq!(rt; nowhere.sync(), Err(LogError::Failed));
     Ok(())
 }
