@@ -1,5 +1,5 @@
 // A disk kept in a file.
-ghost use Rattle.std.specs.Prelude.{◌≡◌, None, string_bytes, IfOk, IsErrOf};
+ghost use Rattle.std.specs.Prelude.{◌≡◌, None, true, string_bytes, IfOk, OnOk, OnErr, IsErrOf, IfSome, IsSome};
 ghost use Rattle.vb_disk.specs.Causes.{HasCause};
 ghost use Rattle.vb_edge.specs.Untold.{nothing_is_told};
 
@@ -14,7 +14,7 @@ use vb_disk::{Disk, DiskError};
 const BLOCK: u64 = 4096;
 
 /// A disk kept in a file, of as many places as it has whole blocks of 4,096 bytes. The file is opened or made at
-/// the first call. It tells nothing of what it holds.
+/// the first call. It tells nothing of what it holds. A call that answers Ok found the file open.
 #[derive(Drop)]
 pub struct FileDisk<R> {
     kept: LateFile<R>,
@@ -37,6 +37,7 @@ impl<R: Files<File = File> + Drop> FileDisk<R> {
         ensures failed { IsErrOf result DiskError.Failed }
         ensures cause { HasCause DiskError.Failed self.old.kept.faults self.new.kept.faults result }
         ensures seen { self.new.blocks ≡ self.old.blocks }
+        ensures no_memory { IsErrOf result DiskError.Memory → ⊥ }
     {
         self.kept.count();
         Err(DiskError::Failed)
@@ -52,9 +53,15 @@ impl<R: Files<File = File> + Drop> Disk for FileDisk<R> {
 
     ghost valid = { λ disk d told. nothing_is_told d told };
 
-    fn size(&mut self) -> Result<u32, DiskError> {
+    fn size(&mut self) -> Result<u32, DiskError>
+        ensures seen { IfOk result (λ blocks. self.new.blocks ≡ blocks) }
+        ensures unseen { OnErr result (self.new.blocks ≡ self.old.blocks) }
+        ensures cause { HasCause DiskError.Failed self.old.kept.faults self.new.kept.faults result }
+        ensures no_memory { IsErrOf result DiskError.Memory → ⊥ }
+        ensures opened { OnOk result (IsSome self.new.kept.file) }
+    {
         self.kept.open();
-        match self.kept.file.as_ref().and_then(blocks_of) {
+        match blocks_of(&self.kept.file) {
             Some(blocks) => {
                 self.blocks = blocks;
                 Ok(blocks)
@@ -63,7 +70,12 @@ impl<R: Files<File = File> + Drop> Disk for FileDisk<R> {
         }
     }
 
-    fn read(&mut self, place: u32, into: &mut Page) -> Result<(), DiskError> {
+    fn read(&mut self, place: u32, into: &mut Page) -> Result<(), DiskError>
+        ensures seen { self.new.blocks ≡ self.old.blocks }
+        ensures cause { HasCause DiskError.Failed self.old.kept.faults self.new.kept.faults result }
+        ensures no_memory { IsErrOf result DiskError.Memory → ⊥ }
+        ensures opened { OnOk result (IsSome self.new.kept.file) }
+    {
         self.kept.open();
         let mut block = [0; 4096];
         if !is_read(&self.kept.file, place, &mut block) {
@@ -73,7 +85,12 @@ impl<R: Files<File = File> + Drop> Disk for FileDisk<R> {
         Ok(())
     }
 
-    fn write(&mut self, place: u32, page: &Page) -> Result<(), DiskError> {
+    fn write(&mut self, place: u32, page: &Page) -> Result<(), DiskError>
+        ensures seen { self.new.blocks ≡ self.old.blocks }
+        ensures cause { HasCause DiskError.Failed self.old.kept.faults self.new.kept.faults result }
+        ensures no_memory { IsErrOf result DiskError.Memory → ⊥ }
+        ensures opened { OnOk result (IsSome self.new.kept.file) }
+    {
         self.kept.open();
         if is_written(&self.kept.file, place, page) {
             Ok(())
@@ -82,7 +99,12 @@ impl<R: Files<File = File> + Drop> Disk for FileDisk<R> {
         }
     }
 
-    fn sync(&mut self) -> Result<(), DiskError> {
+    fn sync(&mut self) -> Result<(), DiskError>
+        ensures seen { self.new.blocks ≡ self.old.blocks }
+        ensures cause { HasCause DiskError.Failed self.old.kept.faults self.new.kept.faults result }
+        ensures no_memory { IsErrOf result DiskError.Memory → ⊥ }
+        ensures opened { OnOk result (IsSome self.new.kept.file) }
+    {
         self.kept.open();
         if is_synced(&self.kept.file) {
             Ok(())
@@ -91,7 +113,13 @@ impl<R: Files<File = File> + Drop> Disk for FileDisk<R> {
         }
     }
 
-    fn resize(&mut self, blocks: u32) -> Result<(), DiskError> {
+    fn resize(&mut self, blocks: u32) -> Result<(), DiskError>
+        ensures seen { OnOk result (self.new.blocks ≡ blocks) }
+        ensures unseen { OnErr result (self.new.blocks ≡ self.old.blocks) }
+        ensures cause { HasCause DiskError.Failed self.old.kept.faults self.new.kept.faults result }
+        ensures no_memory { IsErrOf result DiskError.Memory → ⊥ }
+        ensures opened { OnOk result (IsSome self.new.kept.file) }
+    {
         self.kept.open();
         if is_resized(&self.kept.file, blocks) {
             self.blocks = blocks;
@@ -103,20 +131,27 @@ impl<R: Files<File = File> + Drop> Disk for FileDisk<R> {
 }
 
 // How many whole blocks a file has.
-fn blocks_of(file: &File) -> Option<u32> {
+fn blocks_of(file: &Option<File>) -> Option<u32>
+    ensures { IfSome result (λ _. IsSome file.now) }
+{
+    let file = file.as_ref()?;
     let metadata = file.metadata().ok()?;
     u32::try_from(metadata.len() / BLOCK).ok()
 }
 
 // Whether a whole block was read. A block that the file doesn't have whole isn't.
-fn is_read(file: &Option<File>, place: u32, block: &mut [u8]) -> bool {
+fn is_read(file: &Option<File>, place: u32, block: &mut [u8]) -> bool
+    ensures { result ≡ true → IsSome file.now }
+{
     match file {
         Some(file) => file.read_exact_at(block, u64::from(place) * BLOCK).is_ok(),
         None => false,
     }
 }
 
-fn is_written(file: &Option<File>, place: u32, page: &Page) -> bool {
+fn is_written(file: &Option<File>, place: u32, page: &Page) -> bool
+    ensures { result ≡ true → IsSome file.now }
+{
     match file {
         Some(file) => file
             .write_all_at(page.bytes(), u64::from(place) * BLOCK)
@@ -125,14 +160,18 @@ fn is_written(file: &Option<File>, place: u32, page: &Page) -> bool {
     }
 }
 
-fn is_synced(file: &Option<File>) -> bool {
+fn is_synced(file: &Option<File>) -> bool
+    ensures { result ≡ true → IsSome file.now }
+{
     match file {
         Some(file) => file.sync_all().is_ok(),
         None => false,
     }
 }
 
-fn is_resized(file: &Option<File>, blocks: u32) -> bool {
+fn is_resized(file: &Option<File>, blocks: u32) -> bool
+    ensures { result ≡ true → IsSome file.now }
+{
     match file {
         Some(file) => file.set_len(u64::from(blocks) * BLOCK).is_ok(),
         None => false,

@@ -1,5 +1,5 @@
 // A log kept in a file.
-ghost use Rattle.std.specs.Prelude.{◌≡◌, ◌≤◌, None, length, string_bytes, IfOk, IfSome, IsErrOf};
+ghost use Rattle.std.specs.Prelude.{◌≡◌, ◌≤◌, None, length, string_bytes, true, IfOk, IfSome, OnOk, IsErrOf, IsSome};
 ghost use Rattle.vb_disk.specs.Causes.{HasCause};
 
 use crate::late_file::LateFile;
@@ -28,6 +28,7 @@ impl<R: Files<File = File> + Drop> FileLog<R> {
     fn fail<T>(&mut self) -> Result<T, LogError>
         ensures failed { IsErrOf result LogError.Failed }
         ensures cause { HasCause LogError.Failed self.old.kept.faults self.new.kept.faults result }
+        ensures no_memory { IsErrOf result LogError.Memory → ⊥ }
     {
         self.kept.count();
         Err(LogError::Failed)
@@ -39,7 +40,11 @@ impl<R: Files<File = File> + Drop> LogFile for FileLog<R> {
 
     ghost faults = { λ log. log.kept.faults };
 
-    fn len(&mut self) -> Result<u64, LogError> {
+    fn len(&mut self) -> Result<u64, LogError>
+        ensures cause { HasCause LogError.Failed self.old.kept.faults self.new.kept.faults result }
+        ensures no_memory { IsErrOf result LogError.Memory → ⊥ }
+        ensures opened { OnOk result (IsSome self.new.kept.file) }
+    {
         self.kept.open();
         match length_of(&self.kept.file) {
             Some(len) => Ok(len),
@@ -47,7 +52,12 @@ impl<R: Files<File = File> + Drop> LogFile for FileLog<R> {
         }
     }
 
-    fn read_at(&mut self, at: u64, into: &mut [u8]) -> Result<usize, LogError> {
+    fn read_at(&mut self, at: u64, into: &mut [u8]) -> Result<usize, LogError>
+        ensures fits { IfOk result (λ n. n ≤ length into.old) }
+        ensures cause { HasCause LogError.Failed self.old.kept.faults self.new.kept.faults result }
+        ensures no_memory { IsErrOf result LogError.Memory → ⊥ }
+        ensures opened { OnOk result (IsSome self.new.kept.file) }
+    {
         self.kept.open();
         match read_front(&self.kept.file, at, into) {
             Some(n) => Ok(n),
@@ -55,7 +65,11 @@ impl<R: Files<File = File> + Drop> LogFile for FileLog<R> {
         }
     }
 
-    fn append(&mut self, bytes: &[u8]) -> Result<(), LogError> {
+    fn append(&mut self, bytes: &[u8]) -> Result<(), LogError>
+        ensures cause { HasCause LogError.Failed self.old.kept.faults self.new.kept.faults result }
+        ensures no_memory { IsErrOf result LogError.Memory → ⊥ }
+        ensures opened { OnOk result (IsSome self.new.kept.file) }
+    {
         self.kept.open();
         if is_appended(&self.kept.file, bytes) {
             Ok(())
@@ -64,7 +78,11 @@ impl<R: Files<File = File> + Drop> LogFile for FileLog<R> {
         }
     }
 
-    fn cut(&mut self, len: u64) -> Result<(), LogError> {
+    fn cut(&mut self, len: u64) -> Result<(), LogError>
+        ensures cause { HasCause LogError.Failed self.old.kept.faults self.new.kept.faults result }
+        ensures no_memory { IsErrOf result LogError.Memory → ⊥ }
+        ensures opened { OnOk result (IsSome self.new.kept.file) }
+    {
         self.kept.open();
         if is_cut(&self.kept.file, len) {
             Ok(())
@@ -73,7 +91,11 @@ impl<R: Files<File = File> + Drop> LogFile for FileLog<R> {
         }
     }
 
-    fn sync(&mut self) -> Result<(), LogError> {
+    fn sync(&mut self) -> Result<(), LogError>
+        ensures cause { HasCause LogError.Failed self.old.kept.faults self.new.kept.faults result }
+        ensures no_memory { IsErrOf result LogError.Memory → ⊥ }
+        ensures opened { OnOk result (IsSome self.new.kept.file) }
+    {
         self.kept.open();
         let synced = match &self.kept.file {
             Some(file) => file.sync_all().is_ok(),
@@ -83,20 +105,25 @@ impl<R: Files<File = File> + Drop> LogFile for FileLog<R> {
     }
 }
 
-fn length_of(file: &Option<File>) -> Option<u64> {
+fn length_of(file: &Option<File>) -> Option<u64>
+    ensures { IfSome result (λ _. IsSome file.now) }
+{
     let file = file.as_ref()?;
     Some(file.metadata().ok()?.len())
 }
 
 // How many bytes were put into the front.
 fn read_front(file: &Option<File>, at: u64, into: &mut [u8]) -> Option<usize>
-    ensures { IfSome result (λ n. n ≤ length into.new) }
+    ensures fits { IfSome result (λ n. n ≤ length into.new) }
+    ensures opened { IfSome result (λ _. IsSome file.now) }
 {
     let file = file.as_ref()?;
     file.read_at(into, at).ok()
 }
 
-fn is_appended(file: &Option<File>, bytes: &[u8]) -> bool {
+fn is_appended(file: &Option<File>, bytes: &[u8]) -> bool
+    ensures { result ≡ true → IsSome file.now }
+{
     match (file, length_of(file)) {
         (Some(file), Some(end)) => file.write_all_at(bytes, end).is_ok(),
         _ => false,
@@ -104,7 +131,9 @@ fn is_appended(file: &Option<File>, bytes: &[u8]) -> bool {
 }
 
 // Whether nothing is left past this many bytes. A shorter file stays.
-fn is_cut(file: &Option<File>, len: u64) -> bool {
+fn is_cut(file: &Option<File>, len: u64) -> bool
+    ensures { result ≡ true → IsSome file.now }
+{
     match (file, length_of(file)) {
         (Some(file), Some(end)) => end <= len || file.set_len(len).is_ok(),
         _ => false,
