@@ -1,3 +1,4 @@
 pub mod PathLaws
 pub mod Pieces
 pub mod ReadText
+pub mod PartBounds

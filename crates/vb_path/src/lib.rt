@@ -2,10 +2,12 @@
 #![tactic(auto)]
 
 mod parse;
+mod part;
 mod path;
 mod path_order;
 
-pub use path::{copy_names, Path, PathError};
+pub use part::is_part;
+pub use path::{Path, PathError, copy_names};
 use vb_list::Items;
 
 /// A list of bytes.

@@ -13,7 +13,7 @@ const MOST_PARTS: usize = 32;
 const MOST_PART_BYTES: usize = 255;
 
 /// The place of the first of these bytes.
-fn place_of(text: &[u8], byte: u8) -> Option<usize>
+pub(crate) fn place_of(text: &[u8], byte: u8) -> Option<usize>
     ensures { result ≡ position (λ b. b == byte) text.now }
 {
     text.iter().position(|b| *b == byte)
@@ -31,7 +31,7 @@ fn slash_in(text: &[u8]) -> Option<usize>
 }
 
 /// What is wrong with a part.
-fn part_fault(part: &[u8]) -> Option<PathError>
+pub(crate) fn part_fault(part: &[u8]) -> Option<PathError>
     ensures { result ≡ part_fault_of part.now }
 {
     if part.is_empty() {
@@ -71,7 +71,7 @@ fn slashes_in(text: &[u8]) -> usize
 
 /// The place from which on a text is no UTF-8.
 #[tactic(auto, using(crate::proofs::ReadText::no_bad_utf8))]
-fn bad_utf8(text: &[u8]) -> Option<usize>
+pub(crate) fn bad_utf8(text: &[u8]) -> Option<usize>
     ensures { result ≡ bad_utf8_in text.now }
 {
     match str::from_utf8(text) {

@@ -1,0 +1,7 @@
+pub mod Zeros
+pub mod Numbers
+pub mod RefBytes
+pub mod FieldBytes
+pub mod Checked
+pub mod Decoded
+pub mod Written

@@ -1,0 +1,6 @@
+pub mod Nodes
+pub mod Layout
+pub mod Checks
+pub mod Views
+pub mod Reading
+pub mod Writing
