@@ -1,0 +1,4 @@
+pub mod Counts
+pub mod FreePlaces
+pub mod Marks
+pub mod Seen
