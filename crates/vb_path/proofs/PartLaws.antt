@@ -1,0 +1,191 @@
+-- The parts of a path are parts.
+use Rattle.std.proofs.Common.{◌≡◌, ℕ, zero, suc, ◌+◌, ◌-◌, ◌<◌, ◌≤◌, Bool, true, false, cond, not, ◌&&◌, ◌==◌, List, [], ◌∷◌, length, get_or, take, drop, position, MatchOption, Option, Some, None, Result, Ok, Err, refl, sym, ap, subst, ◌∙◌, arith}
+use Rattle.std.specs.Prelude.{is_none, nat_lt}
+use Rattle.std.specs.List.{position_or_len, AllByRecursion}
+use Rattle.std.specs.Str.{IsUtf8, is_utf8}
+use Rattle.std.specs.Str.Lossy.{utf8_valid_len, valid_len_up_to}
+use Rattle.std.proofs.lemmas.Bool.{false≢true, eqb-true, ltb-false}
+use Rattle.std.proofs.lemmas.List.{length-drop, length-take, get_or-take, get_or-drop, take_all}
+use Rattle.std.proofs.lemmas.List.Quantifiers.{position-Some}
+use Rattle.std.proofs.lemmas.Str.{IsUtf8-from_is_utf8, IsUtf8-take, IsUtf8-drop, IsUtf8-nil, IsCharBoundary-before_ascii, IsCharBoundary-after_ascii}
+use Rattle.vb_path.specs.declared.path.PathError.{PathError}
+use Rattle.vb_path.specs.declared.path.PathError.TheVariants.{Empty, NotAbsolute, LongPath, NotUtf8, BadByte, TrailingSlash, Deep}
+use Rattle.vb_path.specs.Paths.{pieces_of, bad_utf8_in, zero_byte_in, part_fault_of, parts_fault_of, first_fault, fault_of, fault_if, fault_at, fault_after_slash, parts_after_slash, parts_unless, path_of, text_of_path, IsPath}
+use Rattle.vb_path.specs.Parts.{is_part, slash_place_in, IsPart}
+use Rattle.vb_path.proofs.Pieces.{pieces-position}
+use Rattle.vb_path.proofs.ReadText.{fault_if-none, no_bad_utf8}
+
+-- no byte is this one
+abbrev Lacks : ℕ → List ℕ → Type 0
+Lacks byte bytes = (k : ℕ) → k < length bytes → (get_or bytes k 0 == byte) ≡ false
+
+lacks_more : (byte b : ℕ) (bytes : List ℕ) → (b == byte) ≡ false → Lacks byte bytes → Lacks byte (b ∷ bytes)
+lacks_more byte b bytes e h zero lt = e
+lacks_more byte b bytes e h (suc k) lt = h k (omega arith)
+
+lacks_to_end : (byte : ℕ) (bytes : List ℕ) → length bytes ≤ position_or_len (λ b. b == byte) bytes → Lacks byte bytes
+lacks_to_end byte [] h = λ k lt. absurd (omega arith)
+lacks_to_end byte (b ∷ bytes) h = by_test (λ le. lacks_to_end byte bytes le) (b == byte) refl h where
+  by_test : (length bytes ≤ position_or_len (λ x. x == byte) bytes → Lacks byte bytes) → (v : Bool) → (b == byte) ≡ v → length (b ∷ bytes) ≤ cond (not v) (1 + position_or_len (λ x. x == byte) bytes) 0 → Lacks byte (b ∷ bytes)
+  by_test rest true e le = absurd (omega arith)
+  by_test rest false e le = lacks_more byte b bytes e (rest (omega arith))
+
+test_of_none : (t : Bool) (n : ℕ) → cond t (Some n) None ≡ None → t ≡ false
+test_of_none true n e = absurd cc
+test_of_none false n e = refl
+
+lacks_from_none : (byte : ℕ) (bytes : List ℕ) → position (λ b. b == byte) bytes ≡ None → Lacks byte bytes
+lacks_from_none byte bytes e =
+    let n = position_or_len (λ b. b == byte) bytes in
+    lacks_to_end byte bytes (ltb-false n (length bytes) (test_of_none (nat_lt n (length bytes)) n e))
+
+none_from_lacks : (byte : ℕ) (bytes : List ℕ) → Lacks byte bytes → position (λ b. b == byte) bytes ≡ None
+none_from_lacks byte bytes h = by_place (position (λ b. b == byte) bytes) refl where
+  by_place : (o : Option ℕ) → position (λ b. b == byte) bytes ≡ o → o ≡ None
+  by_place None e = refl
+  by_place (Some i) e =
+      let at = position-Some (λ b. b == byte) bytes i 0 e in
+      absurd (false≢true (sym (h i at.0) ∙ at.1))
+
+lacks_take : (byte i : ℕ) (bytes : List ℕ) → Lacks byte bytes → Lacks byte (take i bytes)
+lacks_take byte i bytes h k lt =
+    let below : k < i = omega (arith, length-take i bytes) in
+    let within : k < length bytes = omega (arith, length-take i bytes) in
+    ap (λ b. b == byte) (get_or-take i bytes k 0 below) ∙ h k within
+
+lacks_drop : (byte i : ℕ) (bytes : List ℕ) → Lacks byte bytes → Lacks byte (drop i bytes)
+lacks_drop byte i bytes h k lt =
+    let within : i + k < length bytes = omega (arith, length-drop i bytes) in
+    ap (λ b. b == byte) (get_or-drop i bytes k 0) ∙ h (i + k) within
+
+-- a piece of a path's text, whatever its form
+abbrev IsPiece : List ℕ → Type 0
+IsPiece bytes = IsUtf8 bytes × Lacks 0 bytes × Lacks 47 bytes
+
+none_lacking : (byte : ℕ) → Lacks byte []
+none_lacking byte k lt = absurd (omega arith)
+
+pieces_within : (n : ℕ) (text : List ℕ) → length text ≤ n → IsUtf8 text → Lacks 0 text → AllByRecursion IsPiece (pieces_of text)
+pieces_within zero [] le utf8 clean = ((IsUtf8-nil, none_lacking 0, none_lacking 47), tt)
+pieces_within zero (b ∷ bytes) le utf8 clean = absurd (omega arith)
+pieces_within (suc n) text le utf8 clean =
+    by_place (λ t short u c. pieces_within n t short u c) (position (λ b. b == 47) text) refl (pieces-position text) where
+      by_place : ((t : List ℕ) → length t ≤ n → IsUtf8 t → Lacks 0 t → AllByRecursion IsPiece (pieces_of t)) → (o : Option ℕ) → position (λ b. b == 47) text ≡ o → MatchOption o (pieces_of text ≡ text ∷ []) (λ i. (i < length text) × (pieces_of text ≡ take i text ∷ pieces_of (drop (i + 1) text))) → AllByRecursion IsPiece (pieces_of text)
+      by_place again None e one = subst (AllByRecursion IsPiece) (sym one) ((utf8, clean, lacks_from_none 47 text e), tt)
+      by_place again (Some i) e parts =
+          let at = position-Some (λ b. b == 47) text i 0 e in
+          let slash : get_or text i 0 ≡ 47 = eqb-true (get_or text i 0) 47 at.1 in
+          let before : Lacks 47 (take i text) = λ k lt. (let below : k < i = omega (arith, length-take i text) in ap (λ b. b == 47) (get_or-take i text k 0 below) ∙ at.2 k below) in
+          let first : IsPiece (take i text) = (IsUtf8-take text i utf8 (IsCharBoundary-before_ascii text i at.0 (omega arith)), lacks_take 0 i text clean, before) in
+          let rest = again (drop (i + 1) text) (omega (arith, length-drop (i + 1) text)) (IsUtf8-drop text (i + 1) utf8 (IsCharBoundary-after_ascii text i utf8 at.0 (omega arith))) (lacks_drop 0 (i + 1) text clean) in
+          subst (AllByRecursion IsPiece) (sym parts.1) (first, rest)
+
+-- a piece of good form is a part
+part_from_piece : (bytes : List ℕ) → IsPiece bytes → part_fault_of bytes ≡ None → IsPart bytes
+unfolding is_part
+part_from_piece bytes piece form =
+    let all : Bool → Bool → Bool → Bool → Bool = λ a b c d. a && b && c && d in
+    ap (λ o. all (is_none o) (is_none (bad_utf8_in bytes)) (is_none (zero_byte_in bytes)) (is_none (slash_place_in bytes))) form
+    ∙ ap (λ o. all true (is_none o) (is_none (zero_byte_in bytes)) (is_none (slash_place_in bytes))) (no_bad_utf8 bytes piece.0)
+    ∙ ap (λ o. all true true (is_none o) (is_none (slash_place_in bytes))) (none_from_lacks 0 bytes piece.1)
+    ∙ ap (λ o. all true true true (is_none o)) (none_from_lacks 47 bytes piece.2)
+
+first_none : (a b : Option PathError) → first_fault a b ≡ None → (a ≡ None) × (b ≡ None)
+first_none None b e = (refl, e)
+first_none (Some fault) b e = absurd cc
+
+parts_from_pieces : (pieces : List (List ℕ)) → AllByRecursion IsPiece pieces → parts_fault_of pieces ≡ None → AllByRecursion IsPart pieces
+parts_from_pieces [] h e = tt
+parts_from_pieces (piece ∷ pieces) h e =
+    let forms = first_none (part_fault_of piece) (parts_fault_of pieces) e in
+    (part_from_piece piece h.0 forms.0, parts_from_pieces pieces h.1 forms.1)
+
+-- a text that is UTF-8 up to its end is UTF-8
+front_is_utf8 : (bytes : List ℕ) (n : ℕ) → IsUtf8 (take (valid_len_up_to bytes n) bytes)
+front_is_utf8 bytes zero = IsUtf8-nil
+front_is_utf8 bytes (suc n) = by_test (front_is_utf8 bytes n) (is_utf8 (take (suc n) bytes)) refl where
+  by_test : IsUtf8 (take (valid_len_up_to bytes n) bytes) → (t : Bool) → is_utf8 (take (suc n) bytes) ≡ t → IsUtf8 (take (cond t (suc n) (valid_len_up_to bytes n)) bytes)
+  by_test rest true e = IsUtf8-from_is_utf8 (take (suc n) bytes) e
+  by_test rest false e = rest
+
+test_of_no_place : (t : Bool) (n : ℕ) → cond t None (Some n) ≡ None → t ≡ true
+test_of_no_place true n e = refl
+test_of_no_place false n e = absurd cc
+
+IsUtf8-from_none : (bytes : List ℕ) → bad_utf8_in bytes ≡ None → IsUtf8 bytes
+unfolding utf8_valid_len
+IsUtf8-from_none bytes e =
+    let n = valid_len_up_to bytes (length bytes) in
+    let whole : n ≡ length bytes = eqb-true n (length bytes) (test_of_no_place (n == length bytes) n e) in
+    subst IsUtf8 (take_all n bytes (omega arith)) (front_is_utf8 bytes (length bytes))
+
+fault_at-none : (o : Option ℕ) (fault : ℕ → PathError) (next : Option PathError) → fault_at o fault next ≡ None → (o ≡ None) × (next ≡ None)
+fault_at-none None fault next e = (refl, e)
+fault_at-none (Some at) fault next e = absurd cc
+
+abbrev ok_parts : List (List ℕ) → Result (List (List ℕ)) PathError
+ok_parts parts = Ok parts
+
+same_parts : (a b : List (List ℕ)) → ok_parts a ≡ ok_parts b → a ≡ b
+same_parts a b e = cc
+
+unless_ok : (fault : Option PathError) (given parts : List (List ℕ)) → parts_unless fault given ≡ Ok parts → (fault ≡ None) × (given ≡ parts)
+unless_ok None given parts e = (refl, same_parts given parts e)
+unless_ok (Some fault) given parts e = absurd cc
+
+-- what follows the first slash of a text without a fault: UTF-8, with no zero byte
+abbrev slash_faults : List ℕ → Option PathError
+slash_faults text = fault_after_slash (drop 1 text)
+
+abbrev zero_faults : List ℕ → Option PathError
+zero_faults text = fault_at (zero_byte_in text) BadByte (slash_faults text)
+
+abbrev utf8_faults : List ℕ → Option PathError
+utf8_faults text = fault_at (bad_utf8_in text) NotUtf8 (zero_faults text)
+
+abbrev length_faults : List ℕ → Option PathError
+length_faults text = fault_if (nat_lt 1024 (length text)) (LongPath (length text)) (utf8_faults text)
+
+abbrev start_faults : List ℕ → Option PathError
+start_faults text = fault_if (not (get_or text 0 0 == 47)) NotAbsolute (length_faults text)
+
+true_from_not : (t : Bool) → not t ≡ false → t ≡ true
+true_from_not true e = refl
+true_from_not false e = absurd (false≢true (sym e))
+
+pieces_of_rest : (text : List ℕ) → fault_of text ≡ None → AllByRecursion IsPiece (pieces_of (drop 1 text)) × (fault_after_slash (drop 1 text) ≡ None)
+pieces_of_rest text e =
+    let some = fault_if-none (length text == 0) Empty (start_faults text) e in
+    let start = fault_if-none (not (get_or text 0 0 == 47)) NotAbsolute (length_faults text) some.1 in
+    let short = fault_if-none (nat_lt 1024 (length text)) (LongPath (length text)) (utf8_faults text) start.1 in
+    let utf8 = fault_at-none (bad_utf8_in text) NotUtf8 (zero_faults text) short.1 in
+    let clean = fault_at-none (zero_byte_in text) BadByte (slash_faults text) utf8.1 in
+    let whole = IsUtf8-from_none text utf8.0 in
+    let slash : get_or text 0 0 ≡ 47 = eqb-true (get_or text 0 0) 47 (true_from_not (get_or text 0 0 == 47) start.0) in
+    let longer : 0 < length text = some_bytes text slash in
+    let rest = IsUtf8-drop text 1 whole (IsCharBoundary-after_ascii text 0 whole longer (omega arith)) in
+    (pieces_within (length text) (drop 1 text) (omega (arith, length-drop 1 text)) rest (lacks_drop 0 1 text (lacks_from_none 0 text clean.0)), clean.1) where
+      some_bytes : (bytes : List ℕ) → get_or bytes 0 0 ≡ 47 → 0 < length bytes
+      some_bytes [] h = absurd (omega arith)
+      some_bytes (b ∷ bytes) h = omega arith
+
+abbrev deep_faults : List ℕ → Option PathError
+deep_faults text = fault_if (nat_lt 32 (length (pieces_of text))) (Deep (length (pieces_of text))) (parts_fault_of (pieces_of text))
+
+parts_of_rest : (rest : List ℕ) → AllByRecursion IsPiece (pieces_of rest) → fault_after_slash rest ≡ None → AllByRecursion IsPart (parts_after_slash rest)
+parts_of_rest rest pieces =
+    elim (length rest == 0) as (λ (t : Bool). cond t None (fault_if (get_or rest (length rest - 1) 0 == 47) TrailingSlash (deep_faults rest)) ≡ None → AllByRecursion IsPart (cond t [] (pieces_of rest))) [
+      | true ↦ λ e. tt
+      | false ↦ λ e.
+        let slash = fault_if-none (get_or rest (length rest - 1) 0 == 47) TrailingSlash (deep_faults rest) e in
+        let deep = fault_if-none (nat_lt 32 (length (pieces_of rest))) (Deep (length (pieces_of rest))) (parts_fault_of (pieces_of rest)) slash.1 in
+        parts_from_pieces (pieces_of rest) pieces deep.1
+    ]
+
+-- the parts of a path are parts
+pub parts_are_parts : (parts : List (List ℕ)) → IsPath parts → AllByRecursion IsPart parts
+parts_are_parts parts e =
+    let text = text_of_path parts in
+    let read = unless_ok (fault_of text) (parts_after_slash (drop 1 text)) parts e in
+    let rest = pieces_of_rest text read.0 in
+    subst (AllByRecursion IsPart) read.1 (parts_of_rest (drop 1 text) rest.0 rest.1)

@@ -1,0 +1,11 @@
+// A law of paths, the contract of a function that does nothing.
+ghost use Rattle.std.specs.Prelude.{List, ℕ};
+ghost use Rattle.std.specs.List.{AllByRecursion};
+ghost use Rattle.vb_path.specs.Parts.{IsPart};
+ghost use Rattle.vb_path.specs.Paths.{IsPath};
+
+/// Each part of a path is a part. It does nothing.
+#[tactic(auto, using(crate::proofs::PartLaws::parts_are_parts))]
+pub fn paths_have_parts()
+    ensures { (parts : List (List ℕ)) → IsPath parts → AllByRecursion IsPart parts }
+{}
