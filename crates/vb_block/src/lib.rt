@@ -12,7 +12,7 @@ pub use digest::{Digest, Ref};
 pub use folder_id::FolderId;
 pub use number::{get_u32, get_u64, put_u32, put_u64};
 pub use page::Page;
-pub use sealing::{is_sealed, page_digest, seal};
+pub use sealing::{due_seal, is_sealed, kept_seal, page_digest, seal};
 pub use why::Why;
 
 #[cfg(test)]
