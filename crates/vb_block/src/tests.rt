@@ -45,6 +45,8 @@ fn a_page_is_sealed_until_it_changes(rt: HostRuntime) -> Result<(), Fail> {
     assert_eq!(rt; page.bytes().len(), 4096);
     let seal_bytes = &page.bytes()[4064..];
     assert_eq!(rt; seal_bytes, OF_SEALED_ZEROS.as_slice());
+    assert_eq!(rt; kept_seal(&page), Digest::of(OF_SEALED_ZEROS));
+    assert_eq!(rt; due_seal(&page), Digest::of(OF_SEALED_ZEROS));
     let mut other = page.copy(rt.alloc())?;
     other.set(7, &[1]);
     assert!(rt; !is_sealed(&other));

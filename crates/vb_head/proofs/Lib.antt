@@ -1,0 +1,3 @@
+pub mod HeadsRead
+pub mod HeadsWritten
+pub mod Parts
