@@ -1,3 +1,4 @@
+pub mod CrashedDisks
 pub mod Outcomes
 pub mod Places
 pub mod StatesOf

@@ -1,6 +1,7 @@
 // Disks: what one may do, what a crash may leave of it, and a disk in memory that does just that.
 #![tactic(auto)]
 
+mod after_crash;
 mod cell;
 mod cells;
 mod crash;
@@ -17,6 +18,7 @@ mod misses;
 mod moments;
 mod table;
 
+pub use after_crash::crash_leaves_a_disk;
 pub use cell::Cell;
 pub use crash::{CrashRefused, DamageRefused, MissRefused, Pick, Side, Tear};
 pub use disk::Disk;
