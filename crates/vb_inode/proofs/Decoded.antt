@@ -1,5 +1,5 @@
 -- From the fields of a block to its node, and back.
-use Rattle.std.proofs.Common.{◌≡◌, ℕ, ◌+◌, ◌-◌, ◌*◌, ◌<◌, ◌≤◌, ◌^◌, Bool, true, false, ◌&&◌, ◌==◌, List, ◌++◌, length, take, drop, replicate, Some, Result, Ok, Err, eq-eqb, refl, sym, ap, subst, ◌∙◌, arith}
+use Rattle.std.proofs.Common.{◌≡◌, ℕ, ◌-◌, ◌*◌, ◌≤◌, ◌^◌, Bool, true, ◌&&◌, List, ◌++◌, length, take, drop, replicate, Result, Ok, Err, eq-eqb, refl, sym, ap, subst, ◌∙◌, arith}
 use Rattle.std.specs.List.{flat_map}
 use Rattle.std.proofs.lemmas.Bool.{eqb-true}
 use Rattle.std.proofs.lemmas.List.{length-take, take_at, drop_at, take-append-drop}
@@ -11,8 +11,8 @@ use Rattle.vb_block.specs.declared.why.Why.{Why}
 use Rattle.vb_inode.specs.declared.node.Node.{Node}
 use Rattle.vb_inode.specs.declared.node.NodeKind.{NodeKind}
 use Rattle.vb_inode.specs.declared.errors.NodeError.{NodeError}
-use Rattle.vb_inode.specs.declared.errors.NodeError.TheVariants.{Unsealed, Wrong, Memory}
-use Rattle.vb_inode.specs.Nodes.{IsInRange, map_pages_of, may_be_named, may_have_parent}
+use Rattle.vb_inode.specs.declared.errors.NodeError.TheVariants.{Wrong, Memory}
+use Rattle.vb_inode.specs.Nodes.{map_pages_of, may_be_named, may_have_parent}
 use Rattle.vb_inode.specs.Layout.{Fields, FitsBlock, AreRefs, fields_from, kind_number, node_page, padded, ref_bytes, sealed_bytes}
 use Rattle.vb_inode.specs.Checks.{are_zeros, checked, is_zero_elsewhere, kind_of, name_in}
 use Rattle.vb_inode.specs.Reading.{Answers, AnswersBy, Holds, IsDueTo, IsMadeOf, IsNodeOf, IsReadAs}

@@ -1,5 +1,5 @@
 -- The parts of a path are parts.
-use Rattle.std.proofs.Common.{◌≡◌, ℕ, zero, suc, ◌+◌, ◌-◌, ◌<◌, ◌≤◌, Bool, true, false, cond, not, ◌&&◌, ◌==◌, List, [], ◌∷◌, length, get_or, take, drop, position, MatchOption, Option, Some, None, Result, Ok, Err, refl, sym, ap, subst, ◌∙◌, arith}
+use Rattle.std.proofs.Common.{◌≡◌, ℕ, zero, suc, ◌+◌, ◌-◌, ◌<◌, ◌≤◌, Bool, true, false, cond, not, ◌&&◌, ◌==◌, List, [], ◌∷◌, length, get_or, take, drop, position, MatchOption, Option, Some, None, Result, Ok, refl, sym, ap, subst, ◌∙◌, arith}
 use Rattle.std.specs.Prelude.{is_none, nat_lt}
 use Rattle.std.specs.List.{position_or_len, AllByRecursion}
 use Rattle.std.specs.Str.{IsUtf8, is_utf8}
@@ -10,7 +10,7 @@ use Rattle.std.proofs.lemmas.List.Quantifiers.{position-Some}
 use Rattle.std.proofs.lemmas.Str.{IsUtf8-from_is_utf8, IsUtf8-take, IsUtf8-drop, IsUtf8-nil, IsCharBoundary-before_ascii, IsCharBoundary-after_ascii}
 use Rattle.vb_path.specs.declared.path.PathError.{PathError}
 use Rattle.vb_path.specs.declared.path.PathError.TheVariants.{Empty, NotAbsolute, LongPath, NotUtf8, BadByte, TrailingSlash, Deep}
-use Rattle.vb_path.specs.Paths.{pieces_of, bad_utf8_in, zero_byte_in, part_fault_of, parts_fault_of, first_fault, fault_of, fault_if, fault_at, fault_after_slash, parts_after_slash, parts_unless, path_of, text_of_path, IsPath}
+use Rattle.vb_path.specs.Paths.{pieces_of, bad_utf8_in, zero_byte_in, part_fault_of, parts_fault_of, first_fault, fault_of, fault_if, fault_at, fault_after_slash, parts_after_slash, parts_unless, text_of_path, IsPath}
 use Rattle.vb_path.specs.Parts.{is_part, slash_place_in, IsPart}
 use Rattle.vb_path.proofs.Pieces.{pieces-position}
 use Rattle.vb_path.proofs.ReadText.{fault_if-none, no_bad_utf8}
@@ -177,9 +177,9 @@ parts_of_rest rest pieces =
     elim (length rest == 0) as (λ (t : Bool). cond t None (fault_if (get_or rest (length rest - 1) 0 == 47) TrailingSlash (deep_faults rest)) ≡ None → AllByRecursion IsPart (cond t [] (pieces_of rest))) [
       | true ↦ λ e. tt
       | false ↦ λ e.
-        let slash = fault_if-none (get_or rest (length rest - 1) 0 == 47) TrailingSlash (deep_faults rest) e in
-        let deep = fault_if-none (nat_lt 32 (length (pieces_of rest))) (Deep (length (pieces_of rest))) (parts_fault_of (pieces_of rest)) slash.1 in
-        parts_from_pieces (pieces_of rest) pieces deep.1
+          let slash = fault_if-none (get_or rest (length rest - 1) 0 == 47) TrailingSlash (deep_faults rest) e in
+          let deep = fault_if-none (nat_lt 32 (length (pieces_of rest))) (Deep (length (pieces_of rest))) (parts_fault_of (pieces_of rest)) slash.1 in
+          parts_from_pieces (pieces_of rest) pieces deep.1
     ]
 
 -- the parts of a path are parts

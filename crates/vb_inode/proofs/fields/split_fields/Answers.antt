@@ -1,4 +1,3 @@
-use Rattle.vb_inode.specs.Views.{fields_of}
 use Rattle.vb_inode.proofs.Numbers.{parts_whole}
 use Rattle.vb_inode.proofs.FieldBytes.{sealed_bytes-split}
 use Rattle.vb_inode.proofs.fields.split_fields.Goals as goal
