@@ -62,8 +62,8 @@ test_from_clear : (kind : NodeKind) (f : Fields) → AreClear kind f → is_zero
 unfolding is_zero_elsewhere
 test_from_clear kind f h =
     both_true (are_zeros f.gap && are_zeros (drop f.name_length f.name) && are_zeros (drop (36 * f.map_count) f.maps)) (may_have_parent kind f.parent)
-      (both_true (are_zeros f.gap && are_zeros (drop f.name_length f.name)) (are_zeros (drop (36 * f.map_count) f.maps))
-        (both_true (are_zeros f.gap) (are_zeros (drop f.name_length f.name)) h.gap h.name) h.maps) h.parent
+    (both_true (are_zeros f.gap && are_zeros (drop f.name_length f.name)) (are_zeros (drop (36 * f.map_count) f.maps))
+    (both_true (are_zeros f.gap) (are_zeros (drop f.name_length f.name)) h.gap h.name) h.maps) h.parent
 
 -- the references of a node lie within its block
 pub maps-within : (nodes : ℕ) (f : Fields) (kind : NodeKind) → FitsBlock f → checked nodes f ≡ Ok kind → 36 * f.map_count ≤ length f.maps
@@ -214,6 +214,7 @@ answer_is_due nodes page f result holds answers =
           let p = Passes-from_checked nodes f kind e in
           (IsNodeOf-made nodes kind f node holds.fits p made, page-from_fields page f node holds (fields_from-made nodes kind f node holds.fits p made))
       by_node kind (Err fault) e memory = subst (λ (x : NodeError). IsDueTo nodes page (Err x)) (sym memory) tt
+
       by_checks : (o : Result NodeKind Why) → checked nodes f ≡ o → AnswersBy f o result → IsDueTo nodes page result
       by_checks (Err why) e wrong = subst (IsDueTo nodes page) (sym wrong) (f, holds, e)
       by_checks (Ok kind) e given = by_node kind result e given
