@@ -1,10 +1,10 @@
 -- What fields that pass the checks are, and that the fields of a node in range pass them.
-use Rattle.std.proofs.Common.{◌≡◌, ℕ, zero, suc, ◌*◌, ◌<◌, ◌≤◌, Bool, true, false, not, cond, ◌&&◌, ◌||◌, ◌==◌, List, length, take, drop, Option, Some, None, Result, Ok, Err, refl, sym, ap, subst, ◌∙◌, arith}
+use Rattle.std.proofs.Common.{◌≡◌, ℕ, zero, suc, ◌<◌, ◌≤◌, Bool, true, false, not, cond, ◌||◌, ◌==◌, List, length, Option, Some, None, Result, Ok, refl, sym, ap, subst, ◌∙◌, arith}
 use Rattle.std.specs.Prelude.{nat_le}
 use Rattle.std.proofs.lemmas.Bool.{false≢true, eqb-true, leb-true, leb-false, lt-leb}
 use Rattle.std.proofs.lemmas.Option.{same_Some}
 use Rattle.vb_block.specs.declared.why.Why.{Why}
-use Rattle.vb_block.specs.declared.why.Why.TheVariants.{Kind, Name, Parent, Length, Maps, Rest}
+use Rattle.vb_block.specs.declared.why.Why.TheVariants.{Name, Parent, Length, Maps, Rest}
 use Rattle.vb_path.specs.Parts.{is_part}
 use Rattle.vb_path.proofs.PartBounds.{length-part}
 use Rattle.vb_inode.specs.declared.node.NodeKind.{NodeKind}

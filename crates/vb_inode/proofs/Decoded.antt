@@ -1,5 +1,5 @@
 -- From the fields of a block to its node, and back.
-use Rattle.std.proofs.Common.{◌≡◌, ℕ, ◌+◌, ◌-◌, ◌*◌, ◌<◌, ◌≤◌, ◌^◌, Bool, true, false, ◌&&◌, ◌==◌, List, ◌++◌, length, take, drop, replicate, Some, Result, Ok, Err, eq-eqb, refl, sym, ap, subst, ◌∙◌, arith}
+use Rattle.std.proofs.Common.{◌≡◌, ℕ, ◌-◌, ◌*◌, ◌≤◌, ◌^◌, Bool, true, ◌&&◌, List, ◌++◌, length, take, drop, replicate, Result, Ok, Err, eq-eqb, refl, sym, ap, subst, ◌∙◌, arith}
 use Rattle.std.specs.List.{flat_map}
 use Rattle.std.proofs.lemmas.Bool.{eqb-true}
 use Rattle.std.proofs.lemmas.List.{length-take, take_at, drop_at, take-append-drop}
@@ -11,8 +11,8 @@ use Rattle.vb_block.specs.declared.why.Why.{Why}
 use Rattle.vb_inode.specs.declared.node.Node.{Node}
 use Rattle.vb_inode.specs.declared.node.NodeKind.{NodeKind}
 use Rattle.vb_inode.specs.declared.errors.NodeError.{NodeError}
-use Rattle.vb_inode.specs.declared.errors.NodeError.TheVariants.{Unsealed, Wrong, Memory}
-use Rattle.vb_inode.specs.Nodes.{IsInRange, map_pages_of, may_be_named, may_have_parent}
+use Rattle.vb_inode.specs.declared.errors.NodeError.TheVariants.{Wrong, Memory}
+use Rattle.vb_inode.specs.Nodes.{map_pages_of, may_be_named, may_have_parent}
 use Rattle.vb_inode.specs.Layout.{Fields, FitsBlock, AreRefs, fields_from, kind_number, node_page, padded, ref_bytes, sealed_bytes}
 use Rattle.vb_inode.specs.Checks.{are_zeros, checked, is_zero_elsewhere, kind_of, name_in}
 use Rattle.vb_inode.specs.Reading.{Answers, AnswersBy, Holds, IsDueTo, IsMadeOf, IsNodeOf, IsReadAs}
@@ -62,8 +62,8 @@ test_from_clear : (kind : NodeKind) (f : Fields) → AreClear kind f → is_zero
 unfolding is_zero_elsewhere
 test_from_clear kind f h =
     both_true (are_zeros f.gap && are_zeros (drop f.name_length f.name) && are_zeros (drop (36 * f.map_count) f.maps)) (may_have_parent kind f.parent)
-      (both_true (are_zeros f.gap && are_zeros (drop f.name_length f.name)) (are_zeros (drop (36 * f.map_count) f.maps))
-        (both_true (are_zeros f.gap) (are_zeros (drop f.name_length f.name)) h.gap h.name) h.maps) h.parent
+    (both_true (are_zeros f.gap && are_zeros (drop f.name_length f.name)) (are_zeros (drop (36 * f.map_count) f.maps))
+    (both_true (are_zeros f.gap) (are_zeros (drop f.name_length f.name)) h.gap h.name) h.maps) h.parent
 
 -- the references of a node lie within its block
 pub maps-within : (nodes : ℕ) (f : Fields) (kind : NodeKind) → FitsBlock f → checked nodes f ≡ Ok kind → 36 * f.map_count ≤ length f.maps
@@ -214,6 +214,7 @@ answer_is_due nodes page f result holds answers =
           let p = Passes-from_checked nodes f kind e in
           (IsNodeOf-made nodes kind f node holds.fits p made, page-from_fields page f node holds (fields_from-made nodes kind f node holds.fits p made))
       by_node kind (Err fault) e memory = subst (λ (x : NodeError). IsDueTo nodes page (Err x)) (sym memory) tt
+
       by_checks : (o : Result NodeKind Why) → checked nodes f ≡ o → AnswersBy f o result → IsDueTo nodes page result
       by_checks (Err why) e wrong = subst (IsDueTo nodes page) (sym wrong) (f, holds, e)
       by_checks (Ok kind) e given = by_node kind result e given

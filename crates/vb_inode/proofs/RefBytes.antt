@@ -1,6 +1,6 @@
 -- References in bytes: how many bytes they take, and that the bytes tell them apart.
-use Rattle.std.proofs.Common.{◌≡◌, ℕ, suc, ◌+◌, ◌-◌, ◌*◌, ◌<◌, ◌^◌, List, [], ◌∷◌, ◌++◌, Bool, true, length, take, drop, replicate, refl, sym, ap, ◌∙◌, append_assoc, arith}
-use Rattle.std.specs.List.{flat_map, All}
+use Rattle.std.proofs.Common.{◌≡◌, ℕ, suc, ◌-◌, ◌*◌, ◌<◌, ◌^◌, List, [], ◌∷◌, ◌++◌, true, length, take, drop, replicate, refl, sym, ap, ◌∙◌, append_assoc, arith}
+use Rattle.std.specs.List.{flat_map}
 use Rattle.std.proofs.lemmas.List.{length-append, take_at}
 use Rattle.vb_block.specs.declared.digest.Ref.{Ref}
 use Rattle.vb_inode.specs.Layout.{four_bytes, ref_bytes, map_page, padded, AreRefs}

@@ -1,7 +1,7 @@
 // The checks that a node block's fields have to pass, in their order.
-ghost use Rattle.std.specs.Prelude.{◌≡◌, ◌<◌, ◌^◌, ◌==◌, length};
-ghost use Rattle.vb_inode.specs.Nodes.{is_free, map_pages_of, may_be_named, may_have_length, may_have_parent};
-ghost use Rattle.vb_inode.specs.Checks.{checked, checked_as, is_zero_elsewhere, kind_of, name_in};
+ghost use Rattle.std.specs.Prelude.{◌≡◌, ◌<◌, ◌^◌, ◌==◌};
+ghost use Rattle.vb_inode.specs.Nodes.{map_pages_of, may_be_named, may_have_length, may_have_parent};
+ghost use Rattle.vb_inode.specs.Checks.{checked, checked_as, is_zero_elsewhere, kind_of};
 ghost use Rattle.vb_inode.specs.Views.{fields_of};
 
 use crate::NodeKind;

@@ -1,5 +1,5 @@
 // Reads nodes and map pages from their blocks.
-ghost use Rattle.std.specs.Prelude.{◌≡◌, ◌*◌, ◌≤◌, ◌↔◌, List, Result, Ok, Err, false, drop, length, IfOk, IfErr, Some};
+ghost use Rattle.std.specs.Prelude.{◌≡◌, ◌*◌, ◌≤◌, ◌↔◌, List, Result, Ok, Err, false, drop, length, IfOk};
 ghost use Rattle.sha2.specs.Sha256.{sha256};
 ghost use Rattle.vb_block.specs.Pages.{IsSealed, seal_of, sealed_part};
 ghost use Rattle.vb_block.specs.declared.digest.Ref.{Ref};
@@ -11,7 +11,7 @@ ghost use Rattle.vb_inode.specs.declared.errors.MapError.TheVariants as map_erro
 ghost use Rattle.vb_inode.specs.Layout.{Fields, map_page, node_page, AreRefs};
 ghost use Rattle.vb_inode.specs.Checks.{are_zeros, checked};
 ghost use Rattle.vb_inode.specs.Views.{fields_of};
-ghost use Rattle.vb_inode.specs.Reading.{Answers, AreRefsIn, Holds, IsDueTo, IsMadeOf, IsNodeOf, IsReadAs};
+ghost use Rattle.vb_inode.specs.Reading.{Answers, Holds, IsDueTo, IsMadeOf, IsNodeOf, IsReadAs};
 
 use crate::bytes::{are_zeros, split_within};
 use crate::checks::checked;

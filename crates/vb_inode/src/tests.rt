@@ -47,8 +47,14 @@ fn a_node_has_what_its_block_says(rt: HostRuntime) -> Result<(), Fail> {
     assert_eq!(rt; node.name.slice(), b"ab".as_slice());
     assert_eq!(rt; node.length, 500_000);
     let maps = [
-        Ref { place: 100, digest: Digest::of([7; 32]) },
-        Ref { place: 101, digest: Digest::of([8; 32]) },
+        Ref {
+            place: 100,
+            digest: Digest::of([7; 32]),
+        },
+        Ref {
+            place: 101,
+            digest: Digest::of([8; 32]),
+        },
     ];
     assert_eq!(rt; node.maps.slice(), maps.as_slice());
     assert_eq!(rt; fault_in(rt.alloc(), &page), None);
@@ -187,7 +193,10 @@ fn a_map_page_has_1_to_113_references(rt: HostRuntime) -> Result<(), Fail> {
     page.set(0, &[3, 1]);
     page.set(4, &[5; 32]);
     let refs = decode_map(rt.alloc(), &page, 1).ok().ok_or("a map page")?;
-    let expected = [Ref { place: 259, digest: Digest::of([5; 32]) }];
+    let expected = [Ref {
+        place: 259,
+        digest: Digest::of([5; 32]),
+    }];
     assert_eq!(rt; refs.slice(), expected.as_slice());
     Ok(())
 }

@@ -1,17 +1,19 @@
 -- The parts of a path are parts.
-use Rattle.std.proofs.Common.{◌≡◌, ℕ, zero, suc, ◌+◌, ◌-◌, ◌<◌, ◌≤◌, Bool, true, false, cond, not, ◌&&◌, ◌==◌, List, [], ◌∷◌, length, get_or, take, drop, position, MatchOption, Option, Some, None, Result, Ok, Err, refl, sym, ap, subst, ◌∙◌, arith}
+use Rattle.std.proofs.Common.{◌≡◌, ℕ, zero, suc, ◌+◌, ◌-◌, ◌<◌, ◌≤◌, Bool, true, false, cond, not, ◌&&◌, ◌==◌, List, [], ◌∷◌, length, get_or, take, drop, position, MatchOption, Option, Some, None, Result, Ok, refl, sym, ap, subst, ◌∙◌, arith, inl, inr}
 use Rattle.std.specs.Prelude.{is_none, nat_lt}
 use Rattle.std.specs.List.{position_or_len, AllByRecursion}
-use Rattle.std.specs.Str.{IsUtf8, is_utf8}
+use Rattle.std.specs.Str.{IsUtf8, is_utf8, IsAscii}
 use Rattle.std.specs.Str.Lossy.{utf8_valid_len, valid_len_up_to}
-use Rattle.std.proofs.lemmas.Bool.{false≢true, eqb-true, ltb-false}
-use Rattle.std.proofs.lemmas.List.{length-drop, length-take, get_or-take, get_or-drop, take_all}
+use Rattle.std.proofs.lemmas.Bool.{false≢true, eqb-true, ltb-false, le-ltb}
+use Rattle.std.proofs.lemmas.List.{length-drop, length-take, get_or-take, get_or-drop, take_all, append-nil}
 use Rattle.std.proofs.lemmas.List.Quantifiers.{position-Some}
-use Rattle.std.proofs.lemmas.Str.{IsUtf8-from_is_utf8, IsUtf8-take, IsUtf8-drop, IsUtf8-nil, IsCharBoundary-before_ascii, IsCharBoundary-after_ascii}
+use Rattle.std.proofs.lemmas.Str.{IsUtf8-from_is_utf8, IsUtf8-take, IsUtf8-drop, IsUtf8-nil, IsCharBoundary-before_ascii, IsCharBoundary-after_ascii, IsUtf8-append, IsUtf8-from_ascii}
 use Rattle.vb_path.specs.declared.path.PathError.{PathError}
-use Rattle.vb_path.specs.declared.path.PathError.TheVariants.{Empty, NotAbsolute, LongPath, NotUtf8, BadByte, TrailingSlash, Deep}
-use Rattle.vb_path.specs.Paths.{pieces_of, bad_utf8_in, zero_byte_in, part_fault_of, parts_fault_of, first_fault, fault_of, fault_if, fault_at, fault_after_slash, parts_after_slash, parts_unless, path_of, text_of_path, IsPath}
+use Rattle.vb_path.specs.declared.path.PathError.TheVariants.{Empty, NotAbsolute, LongPath, NotUtf8, BadByte, TrailingSlash, Deep, EmptyPart, DotPart, LongPart}
+use Rattle.vb_path.specs.Paths.{path_of, pieces_of, bad_utf8_in, zero_byte_in, part_fault_of, parts_fault_of, first_fault, fault_of, fault_if, fault_at, fault_after_slash, parts_after_slash, parts_unless, text_of_path, IsPath, is_dots}
 use Rattle.vb_path.specs.Parts.{is_part, slash_place_in, IsPart}
+use Rattle.std.proofs.lemmas.Bool.Decides.{eqb_tells}
+use Rattle.vb_path.proofs.PartBounds.{length-part}
 use Rattle.vb_path.proofs.Pieces.{pieces-position}
 use Rattle.vb_path.proofs.ReadText.{fault_if-none, no_bad_utf8}
 
@@ -177,9 +179,9 @@ parts_of_rest rest pieces =
     elim (length rest == 0) as (λ (t : Bool). cond t None (fault_if (get_or rest (length rest - 1) 0 == 47) TrailingSlash (deep_faults rest)) ≡ None → AllByRecursion IsPart (cond t [] (pieces_of rest))) [
       | true ↦ λ e. tt
       | false ↦ λ e.
-        let slash = fault_if-none (get_or rest (length rest - 1) 0 == 47) TrailingSlash (deep_faults rest) e in
-        let deep = fault_if-none (nat_lt 32 (length (pieces_of rest))) (Deep (length (pieces_of rest))) (parts_fault_of (pieces_of rest)) slash.1 in
-        parts_from_pieces (pieces_of rest) pieces deep.1
+          let slash = fault_if-none (get_or rest (length rest - 1) 0 == 47) TrailingSlash (deep_faults rest) e in
+          let deep = fault_if-none (nat_lt 32 (length (pieces_of rest))) (Deep (length (pieces_of rest))) (parts_fault_of (pieces_of rest)) slash.1 in
+          parts_from_pieces (pieces_of rest) pieces deep.1
     ]
 
 -- the parts of a path are parts
@@ -189,3 +191,88 @@ parts_are_parts parts e =
     let read = unless_ok (fault_of text) (parts_after_slash (drop 1 text)) parts e in
     let rest = pieces_of_rest text read.0 in
     subst (AllByRecursion IsPart) read.1 (parts_of_rest (drop 1 text) rest.0 rest.1)
+
+none_at : (o : Option ℕ) → is_none o ≡ true → o ≡ None
+none_at None e = refl
+none_at (Some n) e = absurd (false≢true e)
+
+no_fault : (o : Option PathError) → is_none o ≡ true → o ≡ None
+no_fault None e = refl
+no_fault (Some fault) e = absurd (false≢true e)
+
+both : (a b : Bool) → (a && b) ≡ true → (a ≡ true) × (b ≡ true)
+both true b e = (refl, e)
+both false b e = absurd (false≢true e)
+
+-- what a part is
+record PartFacts (bytes : List ℕ) : Type 0 where
+  form : part_fault_of bytes ≡ None
+  utf8 : IsUtf8 bytes
+  clean : Lacks 0 bytes
+  whole : slash_place_in bytes ≡ None
+
+facts_of_part : (bytes : List ℕ) → IsPart bytes → PartFacts bytes
+unfolding is_part
+facts_of_part bytes e =
+    let form = is_none (part_fault_of bytes) in
+    let utf8 = is_none (bad_utf8_in bytes) in
+    let zeros = is_none (zero_byte_in bytes) in
+    let d = both (form && utf8 && zeros) (is_none (slash_place_in bytes)) e in
+    let c = both (form && utf8) zeros d.0 in
+    let b = both form utf8 c.0 in
+    record {
+      form = no_fault (part_fault_of bytes) b.0;
+      utf8 = IsUtf8-from_none bytes (none_at (bad_utf8_in bytes) b.1);
+      clean = lacks_from_none 0 bytes (none_at (zero_byte_in bytes) c.1);
+      whole = none_at (slash_place_in bytes) d.1;
+    }
+
+no_fault_if : (t : Bool) (fault : PathError) (next : Option PathError) → t ≡ false → fault_if t fault next ≡ next
+no_fault_if false fault next e = refl
+no_fault_if true fault next e = absurd (false≢true (sym e))
+
+no_fault_at : (o : Option ℕ) (fault : ℕ → PathError) (next : Option PathError) → o ≡ None → fault_at o fault next ≡ next
+no_fault_at None fault next e = refl
+no_fault_at (Some at) fault next e = absurd cc
+
+-- a part has no slash, and so is one piece
+one_piece : (part : List ℕ) → slash_place_in part ≡ None → pieces_of part ≡ part ∷ []
+one_piece part e =
+    subst (λ (o : Option ℕ). MatchOption o (pieces_of part ≡ part ∷ []) (λ i. (i < length part) × (pieces_of part ≡ take i part ∷ pieces_of (drop (i + 1) part)))) e (pieces-position part)
+
+test_is_false : (a b : ℕ) → (a ≡ b → ⊥) → (a == b) ≡ false
+test_is_false a b apart = elim (eqb_tells a b) [ inl w ↦ absurd (apart w.1) | inr w ↦ w.0 ]
+
+-- a part alone is a path
+pub part_alone : (part : List ℕ) → IsPart part → IsPath (part ∷ [])
+part_alone part e =
+    let facts = facts_of_part part e in
+    let text = 47 ∷ part in
+    let bounds = length-part part e in
+    let some : (length part == 0) ≡ false = (fault_if-none (length part == 0) EmptyPart (fault_if (is_dots part) DotPart (fault_if (nat_lt 255 (length part)) (LongPart (length part)) None)) facts.form).0 in
+    let piece = one_piece part facts.whole in
+    let slashes = lacks_from_none 47 part facts.whole in
+    let last : (get_or part (length part - 1) 0 == 47) ≡ false = slashes (length part - 1) (nonempty part some) in
+    let shallow : nat_lt 32 (length (pieces_of part)) ≡ false = ap (λ (ps : List (List ℕ)). nat_lt 32 (length ps)) piece in
+    let parts_fault : parts_fault_of (pieces_of part) ≡ None = ap parts_fault_of piece ∙ ap (λ (o : Option PathError). first_fault o None) facts.form in
+    let after : fault_after_slash part ≡ None = ap (λ (t : Bool). cond t None (fault_if (get_or part (length part - 1) 0 == 47) TrailingSlash (deep_faults part))) some
+    ∙ no_fault_if (get_or part (length part - 1) 0 == 47) TrailingSlash (deep_faults part) last
+    ∙ no_fault_if (nat_lt 32 (length (pieces_of part))) (Deep (length (pieces_of part))) (parts_fault_of (pieces_of part)) shallow
+    ∙ parts_fault in
+    let ascii : IsUtf8 (47 ∷ []) = IsUtf8-from_ascii (47 ∷ []) slash_is_ascii in
+    let clean : Lacks 0 text = lacks_more 0 47 part refl facts.clean in
+    let none : fault_of text ≡ None = no_fault_if (length text == 0) Empty (start_faults text) (test_is_false (length text) 0 (λ h. omega (arith, h)))
+    ∙ no_fault_if (nat_lt 1024 (length text)) (LongPath (length text)) (utf8_faults text) (le-ltb 1024 (length text) (omega (arith, bounds)))
+    ∙ no_fault_at (bad_utf8_in text) NotUtf8 (zero_faults text) (no_bad_utf8 text (IsUtf8-append (47 ∷ []) part ascii facts.utf8))
+    ∙ no_fault_at (zero_byte_in text) BadByte (slash_faults text) (none_from_lacks 0 text clean)
+    ∙ after in
+    let read : path_of text ≡ Ok (part ∷ []) = ap (λ (o : Option PathError). parts_unless o (parts_after_slash part)) none
+    ∙ ap (λ (t : Bool). ok_parts (cond t [] (pieces_of part))) some ∙ ap ok_parts piece in
+    subst (λ (rest : List ℕ). path_of (47 ∷ rest) ≡ Ok (part ∷ [])) (sym (append-nil part)) read where
+      nonempty : (bytes : List ℕ) → (length bytes == 0) ≡ false → length bytes - 1 < length bytes
+      nonempty [] h = absurd (false≢true (sym h))
+      nonempty (b ∷ bytes) h = omega arith
+
+      slash_is_ascii : IsAscii (47 ∷ [])
+      slash_is_ascii zero = omega arith
+      slash_is_ascii (suc k) = omega arith

@@ -1,7 +1,6 @@
-use Rattle.std.proofs.Common.{◌≡◌, ℕ, ◌*◌, Bool, true, false, not, List, drop, length, sym, ap, subst, ◌∙◌}
+use Rattle.std.proofs.Common.{◌≡◌, ℕ, ◌*◌, true, drop, length, sym, ap, ◌∙◌}
 use Rattle.std.proofs.lemmas.Bool.{false≢true}
 use Rattle.vb_inode.specs.Checks.{are_zeros}
-use Rattle.vb_inode.specs.Layout.{map_page}
 use Rattle.vb_inode.proofs.RefBytes.{map_page-read, map_page-zeros, map_page_same}
 use Rattle.vb_inode.proofs.decode.decode_map.Goals as goal
 

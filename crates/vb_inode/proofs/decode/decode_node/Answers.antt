@@ -1,4 +1,4 @@
-use Rattle.std.proofs.Common.{◌≡◌, ℕ, ◌^◌, ◌≤◌, arith, rules, refl}
+use Rattle.std.proofs.Common.{◌^◌, ◌≤◌, arith, rules}
 use Rattle.vb_block.specs.Pages.{IsSealed}
 use Rattle.vb_inode.proofs.Decoded.{Holds-node_page, answer_is_due, answer_is_node, answer_is_wrong}
 use Rattle.vb_inode.proofs.decode.decode_node.Goals as goal

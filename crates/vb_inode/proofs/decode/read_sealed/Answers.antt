@@ -1,13 +1,11 @@
-use Rattle.std.proofs.Common.{◌≡◌, ℕ, List, take, refl, sym, ap, subst, ◌∙◌, Result, Ok, Err}
+use Rattle.std.proofs.Common.{refl, sym, subst, Result, Ok, Err}
 use Rattle.std.proofs.lemmas.Result.{err_from_is_err_and}
-use Rattle.vb_block.specs.Pages.{sealed_part}
 use Rattle.vb_block.specs.declared.why.Why.{Why}
 use Rattle.vb_inode.specs.declared.node.Node.{Node}
 use Rattle.vb_inode.specs.declared.node.NodeKind.{NodeKind}
 use Rattle.vb_inode.specs.declared.errors.NodeError.{NodeError}
 use Rattle.vb_inode.specs.declared.errors.NodeError.TheVariants.{Wrong}
-use Rattle.vb_inode.specs.Layout.{Fields, FitsBlock, sealed_bytes}
-use Rattle.vb_inode.specs.Reading.{AnswersBy, Holds}
+use Rattle.vb_inode.specs.Reading.{AnswersBy}
 use Rattle.vb_inode.specs.Views.{fields_of}
 use Rattle.vb_inode.proofs.Decoded.{held, maps-within}
 use Rattle.vb_inode.proofs.decode.read_sealed.Goals as goal

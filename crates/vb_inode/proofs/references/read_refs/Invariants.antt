@@ -1,4 +1,4 @@
-use Rattle.std.proofs.Common.{◌≡◌, ◌+◌, ◌*◌, ◌≤◌, ◌++◌, length}
+use Rattle.std.proofs.Common.{◌≡◌, ◌+◌, ◌*◌, ◌++◌, length}
 use Rattle.std.specs.List.{flat_map}
 use Rattle.vb_inode.specs.Layout.{ref_bytes, AreRefs}
 use Rattle.vb_inode.proofs.references.read_refs.Given as goal
