@@ -1,0 +1,10 @@
+pub mod AfterCrashes
+pub mod FirstCalls
+pub mod Heads
+pub mod ImageWrites
+pub mod Keeping
+pub mod Overlays
+pub mod PlanSteps
+pub mod Resting
+pub mod StepsOfCommits
+pub mod TriedCells

@@ -1,0 +1,111 @@
+-- What a step of a commit leaves, at Ok and after an error.
+use Rattle.std.proofs.Common.{◌≡◌, ℕ, ◌+◌, Bool, true, false, cond, ltb, List, length, Option, Some, refl, sym, subst, ◌∙◌, ◌⊎◌, inl, inr}
+use Rattle.std.proofs.lemmas.Bool.{cases_lt, lt-ltb, le-ltb}
+use Rattle.vb_disk.specs.declared.disk_error.DiskError.{DiskError}
+use Rattle.vb_disk.specs.declared.disk_error.DiskError.TheVariants.{Failed, Memory}
+use Rattle.vb_disk.specs.States.{DiskCall, DiskState, Sync, Write, after_call, read_at, written}
+use Rattle.vb_disk.proofs.Ways.{EachMoment-call, EachMoment-none, EachMoment-tried}
+use Rattle.vb_head.specs.declared.head.Head.{Head}
+use Rattle.vb_head.specs.Heads.{head_page}
+use Rattle.vb_journal.specs.declared.commit_stage.Stage.{Stage}
+use Rattle.vb_journal.specs.declared.commit_stage.Stage.TheVariants.{Journal, Opening, Homes, Closing, Rested}
+use Rattle.vb_journal.specs.declared.commit_stage.Turn.TheVariants.{First, FirstSync, Second, SecondSync}
+use Rattle.vb_journal.specs.Calls.{Makes, MayFailTo}
+use Rattle.vb_journal.specs.Images.{image_at, slot_of}
+use Rattle.vb_journal.specs.Plans.{CanCommit, closed_head, due_call, is_rested, next_stage, opened_head}
+use Rattle.vb_journal.specs.Progress.{AfterCrash, GoesOn, IsCommitting, ShowsAt}
+use Rattle.vb_journal.proofs.AfterCrashes.{AfterCrash-ShowsAt, AreHeads-from}
+use Rattle.vb_journal.proofs.FirstCalls.{gone}
+use Rattle.vb_journal.proofs.Keeping.{keeps, keeps-homes, keeps-journal, retries-closing-first, retries-closing-second, retries-homes, retries-journal, retries-opening-first, retries-opening-second, writes-closing-first, writes-closing-second, writes-opening-first, writes-opening-second}
+
+-- the disk is known at the stage, and is the one from before or the one after the call
+abbrev pub Tries : Head → ℕ → List (List ℕ) → (ℕ → List ℕ) → (ℕ → List ℕ) → Stage → DiskCall → DiskState → Option DiskState → Type 0
+Tries head epoch images homes journal stage call d told =
+    (new : DiskState) × (told ≡ Some new) × IsCommitting head epoch images homes journal stage new × ((new ≡ d) ⊎ (new ≡ after_call d call))
+
+tries_write : (head : Head) (epoch : ℕ) (images : List (List ℕ)) (homes journal : ℕ → List ℕ) (stage : Stage) (place : ℕ) (page : List ℕ) (d : DiskState) (told : Option DiskState) → MayFailTo (Write place page) d told → IsCommitting head epoch images homes journal stage d → IsCommitting head epoch images homes journal stage (written d place page) → Tries head epoch images homes journal stage (Write place page) d told
+tries_write head epoch images homes journal stage place page d told may is then = elim may [
+  | inl same ↦ (d, same, is, inl refl)
+  | inr made ↦ (written d place page, made, then, inr refl)
+]
+
+tries_sync : (head : Head) (epoch : ℕ) (images : List (List ℕ)) (homes journal : ℕ → List ℕ) (stage : Stage) (d : DiskState) (told : Option DiskState) → MayFailTo Sync d told → IsCommitting head epoch images homes journal stage d → Tries head epoch images homes journal stage Sync d told
+tries_sync head epoch images homes journal stage d told may is = (d, may, is, inl refl)
+
+-- after a call that failed, the disk is known at the same stage
+pub tries : (head : Head) (epoch : ℕ) (images : List (List ℕ)) (homes journal : ℕ → List ℕ) (stage : Stage) (d : DiskState) (told : Option DiskState) → CanCommit head epoch images → is_rested stage ≡ false → MayFailTo (due_call head epoch images stage) d told → IsCommitting head epoch images homes journal stage d → Tries head epoch images homes journal stage (due_call head epoch images stage) d told
+tries head epoch images homes journal (Journal next) d told can going may is =
+    let Q : Bool → Type 0 = λ b. MayFailTo (cond b (Write (2 + head.nodes + next) (image_at images next)) Sync) d told → Tries head epoch images homes journal (Journal next) (cond b (Write (2 + head.nodes + next) (image_at images next)) Sync) d told in
+    elim (cases_lt next (length images)) [
+      | inl left ↦ subst Q (sym (lt-ltb next (length images) left)) (λ m. tries_write head epoch images homes journal (Journal next) (2 + head.nodes + next) (image_at images next) d told m is (retries-journal head epoch images homes journal next (written d (2 + head.nodes + next) (image_at images next)) (keeps-journal head epoch images homes journal next d can.images_are left is))) may
+      | inr none ↦ subst Q (sym (le-ltb next (length images) none)) (λ m. tries_sync head epoch images homes journal (Journal next) d told m is) may
+    ]
+tries head epoch images homes journal (Opening First) d told can going may is = tries_write head epoch images homes journal (Opening First) 0 (head_page (opened_head head epoch images)) d told may is (retries-opening-first head epoch images homes journal (written d 0 (head_page (opened_head head epoch images))) (writes-opening-first head epoch images homes journal d is))
+tries head epoch images homes journal (Opening FirstSync) d told can going may is = tries_sync head epoch images homes journal (Opening FirstSync) d told may is
+tries head epoch images homes journal (Opening Second) d told can going may is = tries_write head epoch images homes journal (Opening Second) 1 (head_page (opened_head head epoch images)) d told may is (retries-opening-second head epoch images homes journal (written d 1 (head_page (opened_head head epoch images))) (writes-opening-second head epoch images homes journal d is))
+tries head epoch images homes journal (Opening SecondSync) d told can going may is = tries_sync head epoch images homes journal (Opening SecondSync) d told may is
+tries head epoch images homes journal (Homes next) d told can going may is =
+    let Q : Bool → Type 0 = λ b. MayFailTo (cond b (Write (2 + slot_of (image_at images next)) (image_at images next)) Sync) d told → Tries head epoch images homes journal (Homes next) (cond b (Write (2 + slot_of (image_at images next)) (image_at images next)) Sync) d told in
+    elim (cases_lt next (length images)) [
+      | inl left ↦ subst Q (sym (lt-ltb next (length images) left)) (λ m. tries_write head epoch images homes journal (Homes next) (2 + slot_of (image_at images next)) (image_at images next) d told m is (retries-homes head epoch images homes journal next (written d (2 + slot_of (image_at images next)) (image_at images next)) (keeps-homes head epoch images homes journal next d can.images_are left is))) may
+      | inr none ↦ subst Q (sym (le-ltb next (length images) none)) (λ m. tries_sync head epoch images homes journal (Homes next) d told m is) may
+    ]
+tries head epoch images homes journal (Closing First) d told can going may is = tries_write head epoch images homes journal (Closing First) 0 (head_page (closed_head head epoch)) d told may is (retries-closing-first head epoch images homes journal (written d 0 (head_page (closed_head head epoch))) (writes-closing-first head epoch images homes journal d is))
+tries head epoch images homes journal (Closing FirstSync) d told can going may is = tries_sync head epoch images homes journal (Closing FirstSync) d told may is
+tries head epoch images homes journal (Closing Second) d told can going may is = tries_write head epoch images homes journal (Closing Second) 1 (head_page (closed_head head epoch)) d told may is (retries-closing-second head epoch images homes journal (written d 1 (head_page (closed_head head epoch))) (writes-closing-second head epoch images homes journal d is))
+tries head epoch images homes journal (Closing SecondSync) d told can going may is = tries_sync head epoch images homes journal (Closing SecondSync) d told may is
+tries head epoch images homes journal Rested d told can going may is = absurd (cc going)
+
+-- what is shown at the next stage may be shown at this one
+cond_stage : (head : Head) (epoch : ℕ) (images : List (List ℕ)) (homes : ℕ → List ℕ) (b : Bool) (next : ℕ) (reads : ℕ → List ℕ) → ShowsAt head epoch images homes (cond b (Journal (next + 1)) (Opening First)) reads → ShowsAt head epoch images homes (Journal next) reads
+cond_stage head epoch images homes true next reads shows = shows
+cond_stage head epoch images homes false next reads shows = shows
+
+cond_home : (head : Head) (epoch : ℕ) (images : List (List ℕ)) (homes : ℕ → List ℕ) (b : Bool) (next : ℕ) (reads : ℕ → List ℕ) → ShowsAt head epoch images homes (cond b (Homes (next + 1)) (Closing First)) reads → ShowsAt head epoch images homes (Homes next) reads
+cond_home head epoch images homes true next reads shows = shows
+cond_home head epoch images homes false next reads shows = shows
+
+shown_before : (head : Head) (epoch : ℕ) (images : List (List ℕ)) (homes : ℕ → List ℕ) (stage : Stage) (reads : ℕ → List ℕ) → ShowsAt head epoch images homes (next_stage (length images) stage) reads → ShowsAt head epoch images homes stage reads
+shown_before head epoch images homes (Journal next) reads shows = cond_stage head epoch images homes (ltb next (length images)) next reads shows
+shown_before head epoch images homes (Opening First) reads shows = shows
+shown_before head epoch images homes (Opening FirstSync) reads shows = shows
+shown_before head epoch images homes (Opening Second) reads shows = shows
+shown_before head epoch images homes (Opening SecondSync) reads shows = inr shows
+shown_before head epoch images homes (Homes next) reads shows = cond_home head epoch images homes (ltb next (length images)) next reads shows
+shown_before head epoch images homes (Closing First) reads shows = shows
+shown_before head epoch images homes (Closing FirstSync) reads shows = shows
+shown_before head epoch images homes (Closing Second) reads shows = shows
+shown_before head epoch images homes (Closing SecondSync) reads shows = shows
+shown_before head epoch images homes Rested reads shows = shows
+
+-- each crash shows what the stage shows
+shown : (head : Head) (epoch : ℕ) (images : List (List ℕ)) (homes journal : ℕ → List ℕ) (stage : Stage) (d : DiskState) → CanCommit head epoch images → IsCommitting head epoch images homes journal stage d → AfterCrash (ShowsAt head epoch images homes stage) d
+shown head epoch images homes journal stage d can is = AfterCrash-ShowsAt head epoch images homes journal stage d can (AreHeads-from head epoch images can is.id) is
+
+pub goes_on-made : (head : Head) (epoch : ℕ) (images : List (List ℕ)) (homes journal : ℕ → List ℕ) (stage : Stage) (old new : Option DiskState) → CanCommit head epoch images → is_rested stage ≡ false → ((d : DiskState) → old ≡ Some d → new ≡ Some (after_call d (due_call head epoch images stage))) → GoesOn head epoch images homes journal stage (next_stage (length images) stage) old new
+goes_on-made head epoch images homes journal stage old new can going made d told is =
+    let then = keeps head epoch images homes journal stage d can.images_are going is in (
+      after_call d (due_call head epoch images stage),
+      made d told,
+      then,
+      EachMoment-call (AfterCrash (ShowsAt head epoch images homes stage)) d (due_call head epoch images stage) (shown head epoch images homes journal stage d can is)
+          (λ crashed crash. shown_before head epoch images homes stage (λ place. read_at crashed place) (shown head epoch images homes journal (next_stage (length images) stage) (after_call d (due_call head epoch images stage)) can then crashed crash)),
+    )
+
+pub goes_on-failed : (head : Head) (epoch : ℕ) (images : List (List ℕ)) (homes journal : ℕ → List ℕ) (stage : Stage) (old new : Option DiskState) → CanCommit head epoch images → is_rested stage ≡ false → ((d : DiskState) → old ≡ Some d → MayFailTo (due_call head epoch images stage) d new) → GoesOn head epoch images homes journal stage stage old new
+goes_on-failed head epoch images homes journal stage old new can going failed d told is =
+    let tried = tries head epoch images homes journal stage d new can going (failed d told) is in (
+      tried.0,
+      tried.1,
+      tried.2,
+      EachMoment-tried (AfterCrash (ShowsAt head epoch images homes stage)) d tried.0 (due_call head epoch images stage) tried.3 (shown head epoch images homes journal stage d can is) (shown head epoch images homes journal stage tried.0 can tried.2),
+    )
+
+pub goes_on-none : (head : Head) (epoch : ℕ) (images : List (List ℕ)) (homes journal : ℕ → List ℕ) (stage : Stage) (old new : Option DiskState) → CanCommit head epoch images → new ≡ old → GoesOn head epoch images homes journal stage stage old new
+goes_on-none head epoch images homes journal stage old new can same d told is =
+    (d, same ∙ told, is, EachMoment-none (AfterCrash (ShowsAt head epoch images homes stage)) d (shown head epoch images homes journal stage d can is))
+
+-- after an error the stage stands
+pub goes_on-gone : (head : Head) (epoch : ℕ) (images : List (List ℕ)) (homes journal : ℕ → List ℕ) (stage : Stage) (old new : Option DiskState) (e : DiskError) → CanCommit head epoch images → is_rested stage ≡ false → Makes (due_call head epoch images stage) old new (gone {T = Unit {0}} e) → GoesOn head epoch images homes journal stage stage old new
+goes_on-gone head epoch images homes journal stage old new Failed can going makes = goes_on-failed head epoch images homes journal stage old new can going (λ d told. makes.failed d told refl)
+goes_on-gone head epoch images homes journal stage old new Memory can going makes = goes_on-none head epoch images homes journal stage old new can (makes.memory refl)

@@ -1,0 +1,6 @@
+pub mod Calls
+pub mod Commits
+pub mod Images
+pub mod Plans
+pub mod Progress
+pub mod Shown

@@ -1,0 +1,130 @@
+-- How far the places of a store have come while a commit goes on.
+use Rattle.std.specs.Prelude.{◌≡◌, ◌≢◌, ◌⊎◌, ℕ, suc, ◌+◌, ◌<◌, ◌≤◌, nat_lt, if◌then◌else◌, List, [], length, replicate, Option, Some, None}
+use Rattle.vb_disk.specs.declared.cell.Cell.{Cell}
+use Rattle.vb_disk.specs.Crashes.{MayCrashTo}
+use Rattle.vb_disk.specs.Moments.{EachMoment}
+use Rattle.vb_disk.specs.States.{DiskState, read_at}
+use Rattle.vb_head.specs.declared.head.Head.{Head}
+use Rattle.vb_head.specs.Heads.{head_page}
+use Rattle.vb_journal.specs.declared.commit_stage.Stage.{Stage}
+use Rattle.vb_journal.specs.declared.commit_stage.Stage.TheVariants.{Journal, Opening, Homes, Closing, Rested}
+use Rattle.vb_journal.specs.declared.commit_stage.Turn.{Turn}
+use Rattle.vb_journal.specs.declared.commit_stage.Turn.TheVariants.{First, FirstSync, Second, SecondSync}
+use Rattle.vb_journal.specs.Images.{image_at, slot_of}
+use Rattle.vb_journal.specs.Plans.{closed_head, opened_head}
+use Rattle.vb_journal.specs.Shown.{Shows, image_over}
+
+-- a place between two pages: it holds the old one; the new one was perhaps written; it was written
+pub data Progress : Type 0 where
+  Fixed : (page : List ℕ) → Progress
+  Trying : (old new : List ℕ) → Progress
+  Tried : (old new : List ℕ) → Progress
+
+-- a whole place with the old page, and then the new one so many times
+abbrev pub tried_cell : List ℕ → List ℕ → ℕ → Cell
+tried_cell old new times = record { first = old; later = replicate times new; hurt = None }
+
+-- a place has come so far. A write that failed may have been made, so that the new page stands there several times.
+abbrev pub Has : Progress → Cell → Type 0
+Has (Fixed page) cell = cell ≡ record { first = page; later = []; hurt = None }
+Has (Trying old new) cell = (times : ℕ) × (cell ≡ tried_cell old new times)
+Has (Tried old new) cell = (times : ℕ) × (cell ≡ tried_cell old new (suc times))
+
+-- the first copy of a head in a turn from the old to the new one, and the second one
+abbrev pub first_in : List ℕ → List ℕ → Turn → Progress
+first_in old new First = Trying old new
+first_in old new FirstSync = Tried old new
+first_in old new Second = Fixed new
+first_in old new SecondSync = Fixed new
+
+abbrev pub second_in : List ℕ → List ℕ → Turn → Progress
+second_in old new First = Fixed old
+second_in old new FirstSync = Fixed old
+second_in old new Second = Trying old new
+second_in old new SecondSync = Tried old new
+
+-- the three heads of a commit: before it, opened and closed
+abbrev pub first_at : List ℕ → List ℕ → List ℕ → Stage → Progress
+first_at before opened closed (Journal next) = Fixed before
+first_at before opened closed (Opening turn) = first_in before opened turn
+first_at before opened closed (Homes next) = Fixed opened
+first_at before opened closed (Closing turn) = first_in opened closed turn
+first_at before opened closed Rested = Fixed closed
+
+abbrev pub second_at : List ℕ → List ℕ → List ℕ → Stage → Progress
+second_at before opened closed (Journal next) = Fixed before
+second_at before opened closed (Opening turn) = second_in before opened turn
+second_at before opened closed (Homes next) = Fixed opened
+second_at before opened closed (Closing turn) = second_in opened closed turn
+second_at before opened closed Rested = Fixed closed
+
+-- the images before this one were written, and this one and those after it perhaps
+abbrev pub passed_by : ℕ → ℕ → List ℕ → List ℕ → Progress
+passed_by next i old new = if nat_lt i next then Tried old new else Trying old new
+
+-- the place of the journal for an image
+abbrev pub journal_at : ℕ → List ℕ → List ℕ → Stage → Progress
+journal_at i old new (Journal next) = passed_by next i old new
+journal_at i old new (Opening turn) = Fixed new
+journal_at i old new (Homes next) = Fixed new
+journal_at i old new (Closing turn) = Fixed new
+journal_at i old new Rested = Fixed new
+
+-- the home of an image
+abbrev pub home_at : ℕ → List ℕ → List ℕ → Stage → Progress
+home_at i old new (Journal next) = Fixed old
+home_at i old new (Opening turn) = Fixed old
+home_at i old new (Homes next) = passed_by next i old new
+home_at i old new (Closing turn) = Fixed new
+home_at i old new Rested = Fixed new
+
+-- no image is for this slot
+abbrev pub IsUnnamed : List (List ℕ) → ℕ → Type 0
+IsUnnamed images slot = (i : ℕ) → i < length images → slot_of (image_at images i) ≢ slot
+
+-- a store in the midst of a commit, at a stage. Before it the homes held these pages, and so did the journal.
+pub record IsCommitting (head : Head) (epoch : ℕ) (images : List (List ℕ)) (homes journal : ℕ → List ℕ) (stage : Stage) (d : DiskState) : Type 0 where
+  pub id : length head.id ≡ 16
+  pub first : Has (first_at (head_page head) (head_page (opened_head head epoch images)) (head_page (closed_head head epoch)) stage) (d.cells 0)
+  pub second : Has (second_at (head_page head) (head_page (opened_head head epoch images)) (head_page (closed_head head epoch)) stage) (d.cells 1)
+  pub in_journal : (i : ℕ) → i < length images → Has (journal_at i (journal i) (image_at images i) stage) (d.cells (2 + head.nodes + i))
+  pub at_home : (i : ℕ) → i < length images → Has (home_at i (homes (slot_of (image_at images i))) (image_at images i) stage) (d.cells (2 + slot_of (image_at images i)))
+  pub beyond : (i : ℕ) → length images ≤ i → i < head.nodes → Has (Fixed (journal i)) (d.cells (2 + head.nodes + i))
+  pub others : (slot : ℕ) → slot < head.nodes → IsUnnamed images slot → Has (Fixed (homes slot)) (d.cells (2 + slot))
+
+-- a store at rest: each place is whole and has one candidate
+pub record IsAtRest (head : Head) (homes journal : ℕ → List ℕ) (d : DiskState) : Type 0 where
+  pub id : length head.id ≡ 16
+  pub first : Has (Fixed (head_page head)) (d.cells 0)
+  pub second : Has (Fixed (head_page head)) (d.cells 1)
+  pub each_home : (slot : ℕ) → slot < head.nodes → Has (Fixed (homes slot)) (d.cells (2 + slot))
+  pub each_image : (i : ℕ) → i < head.nodes → Has (Fixed (journal i)) (d.cells (2 + head.nodes + i))
+
+-- the images of the nodes after the commit
+abbrev pub new_images : List (List ℕ) → (ℕ → List ℕ) → ℕ → List ℕ
+new_images images homes slot = image_over images slot (homes slot)
+
+-- the journal after it
+abbrev pub new_journal : List (List ℕ) → (ℕ → List ℕ) → ℕ → List ℕ
+new_journal images journal i = if nat_lt i (length images) then image_at images i else journal i
+
+-- what reads give at a stage: the old images or the new ones, and from the second sync of the opened heads on the
+-- new ones
+abbrev pub ShowsAt : Head → ℕ → List (List ℕ) → (ℕ → List ℕ) → Stage → (ℕ → List ℕ) → Type 0
+ShowsAt head epoch images homes (Journal next) reads = Shows reads head head.epoch homes ⊎ Shows reads head epoch (new_images images homes)
+ShowsAt head epoch images homes (Opening turn) reads = Shows reads head head.epoch homes ⊎ Shows reads head epoch (new_images images homes)
+ShowsAt head epoch images homes (Homes next) reads = Shows reads head epoch (new_images images homes)
+ShowsAt head epoch images homes (Closing turn) reads = Shows reads head epoch (new_images images homes)
+ShowsAt head epoch images homes Rested reads = Shows reads head epoch (new_images images homes)
+
+-- after each crash of the disk, what reads give has P
+abbrev pub AfterCrash : ((ℕ → List ℕ) → Type 0) → DiskState → Type 0
+AfterCrash P d = (new : DiskState) → MayCrashTo d new → P (λ place. read_at new place)
+
+-- a step leads from a disk that is known at its stage to one that is known at the stage after it, and at each moment
+-- within it each crash shows what the first stage shows
+abbrev pub GoesOn : Head → ℕ → List (List ℕ) → (ℕ → List ℕ) → (ℕ → List ℕ) → Stage → Stage → Option DiskState → Option DiskState → Type 0
+GoesOn head epoch images homes journal before after old new =
+    (d : DiskState) → old ≡ Some d → IsCommitting head epoch images homes journal before d
+    → (next : DiskState) × (new ≡ Some next) × IsCommitting head epoch images homes journal after next
+    × EachMoment (AfterCrash (ShowsAt head epoch images homes before)) d next
