@@ -29,14 +29,14 @@ mark_more first users used i inside above below marked k within =
     let tests : list_any test (take (i + 1) used) ≡ (list_any test (take i used) || nat_eq (get_or used i 0) (first + k)) = list_any_more test used i 0 inside in
     let short : k < length users = omega (arith, length-set users (get_or used i 0 - first) Next) in
     elim (cases_eq k (get_or used i 0 - first)) [
-      inl same ↦
-        let is : nat_eq (get_or used i 0) (first + k) ≡ true = eq-eqb (get_or used i 0) (first + k) (omega arith) in
-        let all : list_any test (take (i + 1) used) ≡ true = tests ∙ or_right (list_any test (take i used)) (nat_eq (get_or used i 0) (first + k)) is in
-        ap (λ (n : ℕ). get_or (set users (get_or used i 0 - first) Next) n Neither) same ∙ get_or-set_same users (get_or used i 0 - first) Next Neither (omega arith) ∙ sym (ap next_if all)
-    | inr other ↦
-        let is : nat_eq (get_or used i 0) (first + k) ≡ false = ne_eqb (get_or used i 0) (first + k) (λ e. other (omega arith)) in
-        let all : list_any test (take (i + 1) used) ≡ list_any test (take i used) = tests ∙ ap (λ (b : Bool). list_any test (take i used) || b) is ∙ or-false (list_any test (take i used)) in
-        get_or-set_other users (get_or used i 0 - first) k Next Neither other ∙ marked k short ∙ sym (ap next_if all)
+      | inl same ↦
+          let is : nat_eq (get_or used i 0) (first + k) ≡ true = eq-eqb (get_or used i 0) (first + k) (omega arith) in
+          let all : list_any test (take (i + 1) used) ≡ true = tests ∙ or_right (list_any test (take i used)) (nat_eq (get_or used i 0) (first + k)) is in
+          ap (λ (n : ℕ). get_or (set users (get_or used i 0 - first) Next) n Neither) same ∙ get_or-set_same users (get_or used i 0 - first) Next Neither (omega arith) ∙ sym (ap next_if all)
+      | inr other ↦
+          let is : nat_eq (get_or used i 0) (first + k) ≡ false = ne_eqb (get_or used i 0) (first + k) (λ e. other (omega arith)) in
+          let all : list_any test (take (i + 1) used) ≡ list_any test (take i used) = tests ∙ ap (λ (b : Bool). list_any test (take i used) || b) is ∙ or-false (list_any test (take i used)) in
+          get_or-set_other users (get_or used i 0 - first) k Next Neither other ∙ marked k short ∙ sym (ap next_if all)
     ]
 
 next-next_if : (b : Bool) → has_next (next_if b) ≡ b

@@ -14,8 +14,8 @@ least_at : (first : ℕ) (us : List Users) (place : ℕ) (rest : List ℕ) → I
 least_at first us place rest head = record {
   free = record { within = (head.lower, head.upper); unused = head.unused };
   least = λ other free.
-    let under : place ≤ first + (other - first) = head.least (other - first) (omega (arith, free.within.0, free.within.1)) free.unused in
-    omega (arith, free.within.0);
+      let under : place ≤ first + (other - first) = head.least (other - first) (omega (arith, free.within.0, free.within.1)) free.unused in
+      omega (arith, free.within.0);
 }
 
 pub least_free : (first : ℕ) (us : List Users) (s : DataPlaces) (place : ℕ) (rest : List ℕ) → places_of first us ≡ s → IsHead first us place rest → IsLeastFree s place

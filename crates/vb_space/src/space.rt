@@ -1,5 +1,5 @@
 // The places that two views share.
-ghost use Rattle.std.specs.Prelude.{◌≡◌, ℕ, ◌+◌, ◌<◌, ◌≤◌, ◌↔◌, length, All, Contains, IfOk};
+ghost use Rattle.std.specs.Prelude.{◌≡◌, ℕ, ◌+◌, ◌<◌, ◌≤◌, ◌↔◌, length, All, Contains, IfOk, IsTrue};
 
 use crate::settle::{settle, settle_used};
 use crate::users::Users;
@@ -85,6 +85,21 @@ impl Space {
         self.from += 1;
         self.users[(place - self.first) as usize] = Users::Next;
         place
+    }
+
+    /// Whether the committed view uses a place.
+    pub fn is_committed(&self, place: u32) -> bool
+        ensures { IsTrue result ↔ IsCommitted self.now place }
+    {
+        if place < self.first {
+            return false;
+        }
+        let i = (place - self.first) as usize;
+        if i < self.users.len() {
+            self.users[i].has_committed()
+        } else {
+            false
+        }
     }
 
     /// Lets the next view use a place of the committed one too.

@@ -11,7 +11,14 @@ pub enum Users {
 }
 
 impl Users {
-    ghost use Rattle.vb_space.specs.Free.{is_neither, settled};
+    ghost use Rattle.vb_space.specs.Free.{has_committed, is_neither, settled};
+
+    /// Whether the committed view uses the place.
+    pub fn has_committed(self) -> bool
+        ensures { result ≡ has_committed self }
+    {
+        matches!(self, Users::Committed | Users::Both)
+    }
 
     /// Whether no view uses the place.
     pub fn is_neither(self) -> bool
