@@ -6,10 +6,10 @@ use Rattle.vb_tree.specs.declared.tree.Kind.TheVariants.{Folder, File}
 use Rattle.vb_tree.specs.declared.tree.TreeEntry.{TreeEntry}
 use Rattle.vb_tree.specs.declared.operation.Op.{Op}
 use Rattle.vb_tree.specs.declared.operation.Op.TheVariants as ops
-use Rattle.vb_tree.specs.declared.operation.Reply.{Reply}
-use Rattle.vb_tree.specs.declared.operation.Reply.TheVariants as replies
-use Rattle.vb_tree.specs.declared.operation.Refusal.{Refusal}
-use Rattle.vb_tree.specs.declared.operation.Refusal.TheVariants.{RootFixed, NoEntry, NoParent, ParentNotDir, Exists, NotAFile, NotADir, NotEmpty, IntoItself, DeepTree, TooLong, TooManyNodes, NoSpace}
+use Rattle.vb_tree.specs.declared.reply.Reply.{Reply}
+use Rattle.vb_tree.specs.declared.reply.Reply.TheVariants as replies
+use Rattle.vb_tree.specs.declared.reply.Refusal.{Refusal}
+use Rattle.vb_tree.specs.declared.reply.Refusal.TheVariants.{RootFixed, NoEntry, NoParent, ParentNotDir, Exists, NotAFile, NotADir, NotEmpty, IntoItself, DeepTree, TooLong, TooManyNodes, NoSpace}
 use Rattle.hex.specs.Hex.{encode_lower}
 use Rattle.vb_path.specs.Paths.{text_of_path}
 use Rattle.vb_hist.specs.declared.entry.Entry.{Entry}

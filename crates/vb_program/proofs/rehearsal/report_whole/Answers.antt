@@ -1,5 +1,5 @@
 use Rattle.vb_program.proofs.Tellings.{tells-first}
-use Rattle.vb_program.proofs.run.report_whole.Goals as goal
+use Rattle.vb_program.proofs.rehearsal.report_whole.Goals as goal
 
 pub returns-then-is_err : goal.returns-then-is_err
 returns-then-is_err c =

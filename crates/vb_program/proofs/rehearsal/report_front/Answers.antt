@@ -1,5 +1,5 @@
 use Rattle.vb_program.proofs.Tellings.{tells-first}
-use Rattle.vb_program.proofs.run.report_front.Goals as goal
+use Rattle.vb_program.proofs.rehearsal.report_front.Goals as goal
 
 pub returns-clause-front : goal.returns-clause-front
 returns-clause-front c =
