@@ -1,11 +1,12 @@
 -- Which ending a status comes from.
-use Rattle.std.proofs.Common.{◌≡◌, ◌⊎◌, ℕ, List, Result, Ok, Err, ⊎_elim, arith}
+use Rattle.std.proofs.Common.{◌≡◌, ◌⊎◌, inl, inr, ℕ, List, Result, Ok, Err, ⊎_elim, sym, ap, ◌∙◌, arith}
 use Rattle.vb_script.specs.declared.script.Script.{Script}
 use Rattle.vb_script.specs.declared.error.LineKind.{LineKind}
+use Rattle.vb_script.specs.declared.error.ScriptError.{ScriptError}
 use Rattle.vb_script.specs.declared.error.ScriptError.TheVariants as script
 use Rattle.vb_program.specs.declared.ending.Ending.{Ending}
 use Rattle.vb_program.specs.declared.ending.Ending.TheVariants.{Whole, Words, Source, Wrong, NotYet, Memory}
-use Rattle.vb_program.specs.Run.{Reports, script_in, status_of, status_after_fault, status_after_shortage}
+use Rattle.vb_program.specs.Run.{Reports, IsRefused, ending_at, script_in, status_of, status_after_fault, status_after_shortage}
 
 -- the status is one that this ending may have
 abbrev pub MayEnd : Ending → Type 0 → ℕ → Type 0
@@ -53,3 +54,23 @@ zero-whole words input lines (NotYet line) fault status r m is =
     absurd (⊎_elim (λ h. omega arith) (⊎_elim (λ h. let e = h.0 in omega arith) (λ h. omega arith)) m)
 zero-whole words input lines Memory fault status r m is =
     absurd (⊎_elim (λ h. omega arith) (⊎_elim (λ h. let e = h.0 in omega arith) (λ h. omega arith)) m)
+
+-- a script that isn't read is refused
+pub unread-refused : (words : List (List ℕ)) (input lines : List ℕ) (ending : Ending) (fault : Type 0) (status : ℕ) (error : ScriptError) → Reports words input ending lines → MayEnd ending fault status → script_in input ≡ Err error → IsRefused error status
+unread-refused words input lines Whole fault status error r m is =
+    let read = r.2 in
+    cc
+unread-refused words input lines Words fault status error r m is =
+    inr (inl (⊎_elim (λ h. h) (⊎_elim (λ h. h.0) (λ h. h)) m))
+unread-refused words input lines Source fault status error r m is =
+    inr (inr (inl (⊎_elim (λ h. h) (⊎_elim (λ h. h.0) (λ h. h)) m)))
+unread-refused words input lines (Wrong line kind) fault status error r m is =
+    let first = r.1 in
+    let same : script.Wrong line kind ≡ error = cc in
+    inl (⊎_elim (λ h. h) (⊎_elim (λ h. h.0) (λ h. h)) m ∙ ap (λ e. status_of (ending_at e)) same)
+unread-refused words input lines (NotYet line) fault status error r m is =
+    let first = r.1 in
+    let same : script.NotYet line ≡ error = cc in
+    inl (⊎_elim (λ h. h) (⊎_elim (λ h. h.0) (λ h. h)) m ∙ ap (λ e. status_of (ending_at e)) same)
+unread-refused words input lines Memory fault status error r m is =
+    inr (inr (inr (⊎_elim (λ h. h) (⊎_elim (λ h. h.0) (λ h. h)) m)))

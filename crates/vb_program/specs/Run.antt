@@ -146,6 +146,12 @@ abbrev pub status_after_shortage : Ending → ℕ
 status_after_shortage Whole = 10
 status_after_shortage other = status_of other
 
+-- the statuses of a script that isn't read: that of its first wrong line, or of its first line that isn't played yet,
+-- unless the words, the source or the memory were wanting
+abbrev pub IsRefused : ScriptError → ℕ → Type 0
+IsRefused error status =
+    (status ≡ status_of (ending_at error)) ⊎ ((status ≡ status_of Words) ⊎ ((status ≡ status_of Source) ⊎ (status ≡ status_of Memory)))
+
 -- all that was due was written; or a write failed or found no memory, and a front of it was written
 abbrev pub IsWritten : Ending → ℕ → Type 0 → Type 0 → List ℕ → List ℕ → Option (List ℕ) → Type 0
 IsWritten ending status fault shortage before due written =

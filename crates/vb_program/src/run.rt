@@ -2,12 +2,13 @@
 ghost use Rattle.std.specs.Prelude.{◌≡◌, ◌++◌, ◌⊎◌, ℕ, List, [], false, ◌↔◌, Some, Ok, Err};
 ghost use Rattle.vb_script.specs.declared.script.Script.{Script};
 ghost use Rattle.vb_script.specs.declared.error.LineKind.{LineKind};
+ghost use Rattle.vb_script.specs.declared.error.ScriptError.{ScriptError};
 ghost use Rattle.vb_script.specs.declared.error.ScriptError.TheVariants as script;
 ghost use Rattle.vb_cause.specs.Faults.{HasRisen};
 ghost use Rattle.vb_stream.specs.Streams.{TakesAtMost, WritesWhole};
 ghost use Rattle.vb_stream.specs.declared.sink.SinkError.{SinkError};
 ghost use Rattle.vb_program.specs.declared.ending.Ending.{Ending};
-ghost use Rattle.vb_program.specs.Run.{are_words, most_read, script_in, Reports, IsDue, IsWritten, error_line, status_of, status_after_fault, status_after_shortage};
+ghost use Rattle.vb_program.specs.Run.{are_words, most_read, script_in, Reports, IsDue, IsRefused, IsWritten, error_line, status_of, status_after_fault, status_after_shortage};
 
 use crate::ending::Ending;
 use crate::rehearsal::rehearse;
@@ -44,8 +45,10 @@ pub fn run<S: Source, O: Sink>(
     ensures source_fault { result.status ≡ 3 → HasRisen (S.faults source.old) (S.faults source.new) }
     ensures sink_fault { result.status ≡ 4 → HasRisen (O.faults sink.old) (O.faults sink.new) }
 
-    // 5 exactly where a line is wrong and 11 exactly where a line can't be played yet: it names the first such line, and
-    // a script without one is played.
+    // 5 exactly where a line is wrong and 11 exactly where a line can't be played yet, unless the words, the source or the
+    // memory were wanting: each names the first such line, and a script without one is played.
+    ensures refused { (input : List ℕ) → S.left source.old ≡ Some input → (error : ScriptError) → script_in input ≡ Err error →
+        IsRefused error result.status }
     ensures wrong { (input : List ℕ) → S.left source.old ≡ Some input → result.status ≡ 5 →
         (line : ℕ) × (kind : LineKind) × (script_in input ≡ Err (script.Wrong line kind)) }
     ensures not_yet { (input : List ℕ) → S.left source.old ≡ Some input → result.status ≡ 11 →
