@@ -1,0 +1,191 @@
+// What was read so far, and how one more line changes it.
+ghost use Rattle.std.specs.Prelude.{◌≡◌, ◌+◌, ◌≤◌, ◌++◌, IfOk};
+ghost use Rattle.std.specs.Option.{option_to_list};
+ghost use Rattle.vb_script.specs.Steps.{Gives, ◌>>=◌};
+ghost use Rattle.vb_script.specs.Scripts.{is_skipped, is_rehearsal, is_blank, sections_of, has_writer, disk_line, with_disk, writer_line, with_writer, with_line, after_command, after_section_line, after_line};
+ghost use Rattle.vb_script.specs.Lines.{line_of};
+ghost use Rattle.vb_script.specs.Sound.{IsSound, lines_in, section_lines};
+
+use crate::command::{Command, Verb, read_command};
+use crate::error::{LineError, LineKind};
+use crate::head::{read_disk, read_schedule, read_writer};
+use crate::line::read_section_line;
+use crate::script::{DiskSize, Form};
+use crate::words::Words;
+use std::alloc::{AllocError, Global};
+use vb_hist::{Line, Lines, Scripts, WriterScript};
+
+/// What was read so far: the disk, the sections that ended, and the one that lines go into.
+#[derive(Debug, Drop)]
+pub(crate) struct Draft {
+    pub(crate) disk: Option<DiskSize>,
+    pub(crate) ended: Scripts,
+    pub(crate) section: Option<WriterScript>,
+}
+
+/// Whether one of these writers has this number. There are at most 64.
+fn is_among(writer: u32, scripts: &[WriterScript]) -> bool
+    ensures { result ≡ has_writer writer scripts.now }
+{
+    scripts.iter().any(|script| script.writer == writer)
+}
+
+impl Draft {
+    /// Whether nothing is read so far.
+    fn is_blank(&self) -> bool
+        ensures { result ≡ is_blank self.now }
+    {
+        self.disk.is_none() && self.section.is_none()
+    }
+
+    /// Whether a writer has this number.
+    pub(crate) fn has_writer(&self, writer: u32) -> bool
+        ensures { result ≡ has_writer writer (sections_of self.now) }
+    {
+        if is_among(writer, self.ended.slice()) {
+            return true;
+        }
+        match &self.section {
+            Some(section) => section.writer == writer,
+            None => false,
+        }
+    }
+}
+
+/// The sections so far: those that ended, and the one that lines go into.
+pub(crate) fn sections(ended: Scripts, section: Option<WriterScript>) -> Result<Scripts, AllocError>
+    ensures { IfOk result (λ scripts. scripts ≡ ended ++ option_to_list section) }
+{
+    let mut scripts = ended;
+    if let Some(section) = section {
+        scripts.add(section)?;
+    }
+    Ok(scripts)
+}
+
+/// The section with one more line at its end.
+fn with_line(section: WriterScript, line: Line) -> Result<WriterScript, AllocError>
+    ensures { IfOk result (λ next. next ≡ with_line section line) }
+{
+    let mut section = section;
+    section.lines.add(line)?;
+    Ok(section)
+}
+
+/// The draft with a disk, the words of whose line are read.
+fn with_disk(draft: Draft, words: Words) -> Result<Draft, LineError>
+    requires { IsSound draft }
+    ensures exact { Gives result
+        (disk_line words.entry >>= (λ disk. Ok (with_disk draft disk))) }
+    ensures sound { IfOk result IsSound }
+    ensures few { IfOk result (λ next. lines_in next ≡ lines_in draft) }
+{
+    let disk = read_disk(words)?;
+    Ok(Draft {
+        disk: Some(disk),
+        ended: draft.ended,
+        section: draft.section,
+    })
+}
+
+/// The draft with one more section, the words of whose line are read.
+#[tactic(auto, using(crate::proofs::Sections::section_laws))]
+fn with_writer(alloc: Global, draft: Draft, words: Words) -> Result<Draft, LineError>
+    requires { IsSound draft }
+    ensures exact { Gives result
+        (writer_line (sections_of draft) words.entry >>= (λ writer. Ok (with_writer draft writer))) }
+    ensures sound { IfOk result IsSound }
+    ensures few { IfOk result (λ next. lines_in next ≡ lines_in draft) }
+{
+    let writer = read_writer(&draft, words)?;
+    let ended = sections(draft.ended, draft.section)?;
+    Ok(Draft {
+        disk: draft.disk,
+        ended,
+        section: Some(WriterScript {
+            writer,
+            lines: Lines::new(alloc),
+        }),
+    })
+}
+
+/// The draft with one more line of its section.
+#[tactic(auto, using(crate::proofs::Sections::section_laws))]
+fn with_section_line(
+    alloc: Global,
+    draft: Draft,
+    verb: Verb,
+    words: Words,
+) -> Result<Draft, LineError>
+    requires { IsSound draft }
+    ensures exact { Gives result
+        (after_section_line draft draft.section (line_of verb words.entry)) }
+    ensures sound { IfOk result IsSound }
+    ensures few { IfOk result (λ next. lines_in next ≡ lines_in draft + 1) }
+{
+    let Some(section) = draft.section else {
+        return Err(LineError::Wrong {
+            kind: LineKind::Place,
+        });
+    };
+    let line = read_section_line(alloc, verb, words)?;
+    let section = with_line(section, line)?;
+    Ok(Draft {
+        disk: draft.disk,
+        ended: draft.ended,
+        section: Some(section),
+    })
+}
+
+/// The draft after one more command: its place first, and then the words after it.
+fn after_command(
+    alloc: Global,
+    form: Form,
+    draft: Draft,
+    command: Command,
+    words: Words,
+) -> Result<Draft, LineError>
+    requires { IsSound draft }
+    ensures exact { Gives result (after_command form draft command words.entry) }
+    ensures sound { IfOk result IsSound }
+    ensures few { IfOk result (λ next. lines_in next ≤ lines_in draft + 1) }
+{
+    let rehearsal = form == Form::Rehearse;
+    match command {
+        Command::Disk if rehearsal && draft.is_blank() => with_disk(draft, words),
+        Command::Writer => with_writer(alloc, draft, words),
+        Command::InSection { verb } => with_section_line(alloc, draft, verb, words),
+        Command::Schedule if rehearsal => read_schedule(words),
+        _ => Err(LineError::Wrong {
+            kind: LineKind::Place,
+        }),
+    }
+}
+
+/// Whether a line is empty or begins with `#`.
+fn is_skipped(line: &[u8]) -> bool
+    ensures { result ≡ is_skipped line.now }
+{
+    line.is_empty() || line[0] == b'#'
+}
+
+/// The draft after one more line.
+#[tactic(auto, unfolding(crate::specs::Scripts::after_line))]
+pub(crate) fn after_line(
+    alloc: Global,
+    form: Form,
+    draft: Draft,
+    line: &[u8],
+) -> Result<Draft, LineError>
+    requires { IsSound draft }
+    ensures exact { Gives result (after_line form draft line.now) }
+    ensures sound { IfOk result IsSound }
+    ensures few { IfOk result (λ next. lines_in next ≤ lines_in draft + 1) }
+{
+    if is_skipped(line) {
+        return Ok(draft);
+    }
+    let (word, words) = Words::split(line);
+    let command = read_command(word)?;
+    after_command(alloc, form, draft, command, words)
+}
