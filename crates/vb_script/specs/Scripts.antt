@@ -83,22 +83,26 @@ schedule_line words = do
   nothing ← no_word words
   Err line.NotYet
 
--- the draft with a disk
-abbrev pub with_disk : Draft → DiskSize → Draft
-with_disk draft disk = record draft { disk = Some disk }
+-- the draft with the disk that a line gives
+abbrev pub with_disk : Draft → Result DiskSize LineError → Result Draft LineError
+with_disk draft read = do
+  disk ← read
+  Ok (record draft { disk = Some disk })
 
--- the draft with one more section, which the last one ends at
-abbrev pub with_writer : Draft → ℕ → Draft
-with_writer draft writer = record draft { ended = sections_of draft; section = Some (record { writer = writer; lines = [] }) }
+-- the draft with the section that a writer's line begins, which the last one ends at
+abbrev pub with_writer : Draft → Result ℕ LineError → Result Draft LineError
+with_writer draft read = do
+  writer ← read
+  Ok (record draft { ended = sections_of draft; section = Some (record { writer = writer; lines = [] }) })
 
 -- the section with one more line
 abbrev pub with_line : WriterScript → Line → WriterScript
 with_line section line = record section { lines = section.lines ++ line ∷ [] }
 
 -- the draft with one more line of its section: where there is no section, a line of one has no place
-abbrev pub after_section_line : Draft → Option WriterScript → Result Line LineError → Result Draft LineError
-after_section_line draft None read = Err (line.Wrong kind.Place)
-after_section_line draft (Some section) read = do
+abbrev pub with_section_line : Draft → Option WriterScript → Result Line LineError → Result Draft LineError
+with_section_line draft None read = Err (line.Wrong kind.Place)
+with_section_line draft (Some section) read = do
   next ← read
   Ok (record draft { section = Some (with_line section next) })
 
@@ -106,9 +110,9 @@ after_section_line draft (Some section) read = do
 -- belong to a rehearsal; a writer may come anywhere; an operation or a freeze belongs to a section; and a line of a schedule
 -- has no place before the schedule
 abbrev pub after_command : Form → Draft → Command → List (List ℕ) → Result Draft LineError
-after_command form draft Disk words = provided kind.Place (is_rehearsal form && is_blank draft) (disk_line words >>= λ disk. Ok (with_disk draft disk))
-after_command form draft Writer words = writer_line (sections_of draft) words >>= λ writer. Ok (with_writer draft writer)
-after_command form draft (InSection verb) words = after_section_line draft draft.section (line_of verb words)
+after_command form draft Disk words = provided kind.Place (is_rehearsal form && is_blank draft) (with_disk draft (disk_line words))
+after_command form draft Writer words = with_writer draft (writer_line (sections_of draft) words)
+after_command form draft (InSection verb) words = with_section_line draft draft.section (line_of verb words)
 after_command form draft Schedule words = provided kind.Place (is_rehearsal form) (schedule_line words)
 after_command form draft InSchedule words = Err (line.Wrong kind.Place)
 

@@ -1,8 +1,8 @@
 // What was read so far, and how one more line changes it.
 ghost use Rattle.std.specs.Prelude.{◌≡◌, ◌+◌, ◌≤◌, ◌++◌, IfOk};
 ghost use Rattle.std.specs.Option.{option_to_list};
-ghost use Rattle.vb_script.specs.Steps.{Gives, ◌>>=◌};
-ghost use Rattle.vb_script.specs.Scripts.{is_skipped, is_rehearsal, is_blank, sections_of, has_writer, disk_line, with_disk, writer_line, with_writer, with_line, after_command, after_section_line, after_line};
+ghost use Rattle.vb_script.specs.Steps.{Gives};
+ghost use Rattle.vb_script.specs.Scripts.{is_skipped, is_rehearsal, is_blank, sections_of, has_writer, disk_line, with_disk, writer_line, with_writer, with_line, after_command, with_section_line, after_line};
 ghost use Rattle.vb_script.specs.Lines.{line_of};
 ghost use Rattle.vb_script.specs.Sound.{IsSound, lines_in, section_lines};
 
@@ -76,7 +76,7 @@ fn with_line(section: WriterScript, line: Line) -> Result<WriterScript, AllocErr
 fn with_disk(draft: Draft, words: Words) -> Result<Draft, LineError>
     requires { IsSound draft }
     ensures exact { Gives result
-        (disk_line words.entry >>= (λ disk. Ok (with_disk draft disk))) }
+        (with_disk draft (disk_line words.entry)) }
     ensures sound { IfOk result IsSound }
     ensures few { IfOk result (λ next. lines_in next ≡ lines_in draft) }
 {
@@ -93,7 +93,7 @@ fn with_disk(draft: Draft, words: Words) -> Result<Draft, LineError>
 fn with_writer(alloc: Global, draft: Draft, words: Words) -> Result<Draft, LineError>
     requires { IsSound draft }
     ensures exact { Gives result
-        (writer_line (sections_of draft) words.entry >>= (λ writer. Ok (with_writer draft writer))) }
+        (with_writer draft (writer_line (sections_of draft) words.entry)) }
     ensures sound { IfOk result IsSound }
     ensures few { IfOk result (λ next. lines_in next ≡ lines_in draft) }
 {
@@ -119,7 +119,7 @@ fn with_section_line(
 ) -> Result<Draft, LineError>
     requires { IsSound draft }
     ensures exact { Gives result
-        (after_section_line draft draft.section (line_of verb words.entry)) }
+        (with_section_line draft draft.section (line_of verb words.entry)) }
     ensures sound { IfOk result IsSound }
     ensures few { IfOk result (λ next. lines_in next ≡ lines_in draft + 1) }
 {
