@@ -123,7 +123,12 @@ fn with_section_line(
     ensures sound { IfOk result IsSound }
     ensures few { IfOk result (λ next. lines_in next ≡ lines_in draft + 1) }
 {
-    let Some(section) = draft.section else {
+    let Draft {
+        disk,
+        ended,
+        section,
+    } = draft;
+    let Some(section) = section else {
         return Err(LineError::Wrong {
             kind: LineKind::Place,
         });
@@ -131,13 +136,14 @@ fn with_section_line(
     let line = read_section_line(alloc, verb, words)?;
     let section = with_line(section, line)?;
     Ok(Draft {
-        disk: draft.disk,
-        ended: draft.ended,
+        disk,
+        ended,
         section: Some(section),
     })
 }
 
 /// The draft after one more command: its place first, and then the words after it.
+#[tactic(auto, unfolding(crate::specs::Scripts::schedule_line))]
 fn after_command(
     alloc: Global,
     form: Form,
@@ -155,7 +161,10 @@ fn after_command(
         Command::Disk if rehearsal && draft.is_blank() => with_disk(draft, words),
         Command::Writer => with_writer(alloc, draft, words),
         Command::InSection { verb } => with_section_line(alloc, draft, verb, words),
-        Command::Schedule if rehearsal => read_schedule(words),
+        Command::Schedule if rehearsal => {
+            words.end()?;
+            Err(LineError::NotYet)
+        }
         _ => Err(LineError::Wrong {
             kind: LineKind::Place,
         }),

@@ -1,7 +1,7 @@
-// The lines that stand outside of sections: a disk, a writer, and a schedule.
+// The lines that stand outside of sections: a disk and a writer.
 ghost use Rattle.std.specs.Prelude.{◌≡◌, ◌≤◌, false, IfOk};
 ghost use Rattle.vb_script.specs.Steps.{Gives};
-ghost use Rattle.vb_script.specs.Scripts.{is_disk, disk_line, writer_line, schedule_line, sections_of, has_writer, IsDiskInLimits};
+ghost use Rattle.vb_script.specs.Scripts.{is_disk, disk_line, writer_line, sections_of, has_writer, IsDiskInLimits};
 
 use crate::draft::Draft;
 use crate::error::{LineError, LineKind};
@@ -73,13 +73,4 @@ pub(crate) fn read_writer(draft: &Draft, words: Words) -> Result<u32, LineError>
         });
     }
     Ok(writer)
-}
-
-/// Reads the words of a `schedule` line, which isn't read yet.
-#[tactic(auto, unfolding(crate::specs::Scripts::schedule_line))]
-pub(crate) fn read_schedule(words: Words) -> Result<Draft, LineError>
-    ensures { Gives result (schedule_line words.entry) }
-{
-    words.end()?;
-    Err(LineError::NotYet)
 }

@@ -380,7 +380,7 @@ fn bounds_the_bytes_of_a_write(rt: HostRuntime) -> Result<(), Fail> {
 
 #[test]
 fn bounds_the_bytes_of_a_script(rt: HostRuntime) -> Result<(), Fail> {
-    let most = vec![in rt.alloc(); b'\n'; 16_777_216]?;
+    let most = vec![in rt.alloc(); b'#'; 16_777_216]?;
     assert!(rt; read_script(rt.alloc(), &most, Form::Run).is_ok());
     let more = vec![in rt.alloc(); b'\n'; 16_777_217]?;
     assert_eq!(rt;
