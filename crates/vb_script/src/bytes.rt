@@ -14,8 +14,6 @@ pub(crate) fn read_bytes(alloc: Global, word: &[u8]) -> Result<Bytes, LineError>
     match hex::decode(alloc, word) {
         Ok(bytes) => Ok(Bytes::from_vec(bytes)),
         Err(hex::FromHexError::OutOfMemory) => Err(LineError::Memory),
-        Err(_) => Err(LineError::Wrong {
-            kind: LineKind::Hex,
-        }),
+        Err(_) => Err(LineKind::Hex.into()),
     }
 }

@@ -120,8 +120,6 @@ pub(crate) fn read_command(word: &[u8]) -> Result<Command, LineError>
 {
     match command_named(word) {
         Some(command) => Ok(command),
-        None => Err(LineError::Wrong {
-            kind: LineKind::Unknown,
-        }),
+        None => Err(LineKind::Unknown.into()),
     }
 }

@@ -8,7 +8,7 @@ ghost use Rattle.vb_script.specs.Sound.{IsSound, lines_in, section_lines};
 
 use crate::command::{Command, Verb, read_command};
 use crate::error::{LineError, LineKind};
-use crate::head::{read_disk, read_schedule, read_writer};
+use crate::head::{read_disk, read_writer};
 use crate::line::read_section_line;
 use crate::script::{DiskSize, Form};
 use crate::words::Words;
@@ -129,9 +129,7 @@ fn with_section_line(
         section,
     } = draft;
     let Some(section) = section else {
-        return Err(LineError::Wrong {
-            kind: LineKind::Place,
-        });
+        return Err(LineKind::Place.into());
     };
     let line = read_section_line(alloc, verb, words)?;
     let section = with_line(section, line)?;
@@ -165,9 +163,7 @@ fn after_command(
             words.end()?;
             Err(LineError::NotYet)
         }
-        _ => Err(LineError::Wrong {
-            kind: LineKind::Place,
-        }),
+        _ => Err(LineKind::Place.into()),
     }
 }
 

@@ -1,6 +1,6 @@
 // What is wrong with a script, and with one of its lines.
 ghost use Rattle.std.specs.Prelude.{◌≡◌};
-ghost use Rattle.vb_script.specs.declared.error.LineError.TheVariants.{Memory};
+ghost use Rattle.vb_script.specs.declared.error.LineError.TheVariants.{Wrong, Memory};
 
 use std::alloc::AllocError;
 
@@ -44,6 +44,14 @@ pub(crate) enum LineError {
     Wrong { kind: LineKind },
     NotYet,
     Memory,
+}
+
+impl From<LineKind> for LineError {
+    ghost from_gives = { λ kind e. e ≡ Wrong kind };
+
+    fn from(kind: LineKind) -> LineError {
+        LineError::Wrong { kind }
+    }
 }
 
 impl From<AllocError> for LineError {

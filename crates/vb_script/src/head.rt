@@ -42,9 +42,7 @@ pub(crate) fn read_disk(words: Words) -> Result<DiskSize, LineError>
     let blocks = read_number(blocks)?;
     let nodes = read_number(nodes)?;
     if !is_disk(blocks, nodes) {
-        return Err(LineError::Wrong {
-            kind: LineKind::Range,
-        });
+        return Err(LineKind::Range.into());
     }
     Ok(DiskSize {
         blocks: blocks as u32,
@@ -62,15 +60,11 @@ pub(crate) fn read_writer(draft: &Draft, words: Words) -> Result<u32, LineError>
 {
     let writer = read_number(words.one()?)?;
     if writer < 1 || writer > MOST_WRITERS {
-        return Err(LineError::Wrong {
-            kind: LineKind::Range,
-        });
+        return Err(LineKind::Range.into());
     }
     let writer = writer as u32;
     if draft.has_writer(writer) {
-        return Err(LineError::Wrong {
-            kind: LineKind::Twice,
-        });
+        return Err(LineKind::Twice.into());
     }
     Ok(writer)
 }

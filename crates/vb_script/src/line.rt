@@ -36,9 +36,7 @@ fn write_line(alloc: Global, words: Words) -> Result<Line, LineError>
     let offset = read_number(offset)?;
     let bytes = read_bytes(alloc, hex)?;
     if offset >= WRITE_END || bytes.is_empty() || bytes.len() > MOST_WRITTEN {
-        return Err(LineError::Wrong {
-            kind: LineKind::Range,
-        });
+        return Err(LineKind::Range.into());
     }
     Ok(Line::Perform {
         op: Op::Write {
@@ -58,9 +56,7 @@ fn truncate_line(alloc: Global, words: Words) -> Result<Line, LineError>
     let path = read_path(alloc, path)?;
     let length = read_number(length)?;
     if length >= END {
-        return Err(LineError::Wrong {
-            kind: LineKind::Range,
-        });
+        return Err(LineKind::Range.into());
     }
     Ok(Line::Perform {
         op: Op::Truncate { path, length },
@@ -77,9 +73,7 @@ fn read_line(alloc: Global, words: Words) -> Result<Line, LineError>
     let offset = read_number(offset)?;
     let length = read_number(length)?;
     if offset >= END || length > MOST_READ {
-        return Err(LineError::Wrong {
-            kind: LineKind::Range,
-        });
+        return Err(LineKind::Range.into());
     }
     Ok(Line::Perform {
         op: Op::Read {

@@ -47,8 +47,6 @@ pub(crate) fn read_number(word: &[u8]) -> Result<u64, LineError>
 {
     match number_in(word) {
         Some(number) => Ok(number),
-        None => Err(LineError::Wrong {
-            kind: LineKind::Number,
-        }),
+        None => Err(LineKind::Number.into()),
     }
 }

@@ -18,9 +18,7 @@ pub(crate) fn read_path(alloc: Global, word: &[u8]) -> Result<Path, LineError>
     match Path::parse(alloc, text.as_slice()) {
         Ok(path) => Ok(path),
         Err(PathError::Memory) => Err(LineError::Memory),
-        Err(_) => Err(LineError::Wrong {
-            kind: LineKind::Path,
-        }),
+        Err(_) => Err(LineKind::Path.into()),
     }
 }
 

@@ -40,9 +40,7 @@ impl<'a> Words<'a> {
             (λ error. next_word self.old ≡ Err error) }
     {
         let Some(text) = self.rest else {
-            return Err(LineError::Wrong {
-                kind: LineKind::Words,
-            });
+            return Err(LineKind::Words.into());
         };
         let word = match split_once(text, b' ') {
             None => {
@@ -55,9 +53,7 @@ impl<'a> Words<'a> {
             }
         };
         if word.is_empty() {
-            return Err(LineError::Wrong {
-                kind: LineKind::Words,
-            });
+            return Err(LineKind::Words.into());
         }
         Ok(word)
     }
@@ -69,9 +65,7 @@ impl<'a> Words<'a> {
     {
         match self.rest {
             None => Ok(()),
-            Some(_) => Err(LineError::Wrong {
-                kind: LineKind::Words,
-            }),
+            Some(_) => Err(LineKind::Words.into()),
         }
     }
 
