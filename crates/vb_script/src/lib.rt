@@ -13,6 +13,7 @@ mod path;
 mod read;
 mod script;
 mod split;
+mod step;
 mod words;
 
 pub use error::{LineKind, ScriptError};

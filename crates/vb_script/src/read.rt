@@ -5,10 +5,11 @@ ghost use Rattle.vb_script.specs.Words.{lines_of};
 ghost use Rattle.vb_script.specs.Scripts.{most_bytes, blank, refusal_at, line_at, after_lines, script_in, IsDue, IsScriptOf, AreWriters};
 ghost use Rattle.vb_script.specs.Sound.{IsSound, IsDiskAllowed, lines_in};
 
-use crate::draft::{Draft, after_line, sections};
+use crate::draft::{Draft, sections};
 use crate::error::{LineError, LineKind, ScriptError};
 use crate::script::{Form, Script};
 use crate::split::split_once;
+use crate::step::after_line;
 use std::alloc::{AllocError, Global};
 use vb_hist::Scripts;
 
