@@ -1,6 +1,6 @@
 use Rattle.std.proofs.Common.{◌∙◌, sym}
 use Rattle.vb_script.proofs.Numbers.{IsUtf8-numeral, number_of-parsed}
-use Rattle.vb_script.proofs.value.number_in.Goals as goal
+use Rattle.vb_script.proofs.number.number_in.Goals as goal
 
 pub returns-in-Ok : goal.returns-in-Ok
 returns-in-Ok c =
