@@ -1,5 +1,5 @@
 -- Which ending a status comes from.
-use Rattle.std.proofs.Common.{◌≡◌, ◌⊎◌, inl, inr, ℕ, List, Result, Ok, Err, ⊎_elim, sym, ap, ◌∙◌, arith}
+use Rattle.std.proofs.Common.{◌≡◌, ◌⊎◌, inl, inr, ℕ, List, Ok, Err, ⊎_elim, ap, ◌∙◌, arith}
 use Rattle.vb_script.specs.declared.script.Script.{Script}
 use Rattle.vb_script.specs.declared.error.LineKind.{LineKind}
 use Rattle.vb_script.specs.declared.error.ScriptError.{ScriptError}

@@ -1,5 +1,5 @@
 -- What a rehearsal comes to, as what is due from these words and bytes.
-use Rattle.std.proofs.Common.{◌≡◌, ◌≢◌, ◌⊎◌, inl, inr, ⊎_elim, ℕ, true, List, [], take, Result, Ok, Err, sym, ap, ◌∙◌, subst}
+use Rattle.std.proofs.Common.{◌≡◌, ◌≢◌, inl, inr, ⊎_elim, ℕ, true, List, take, Ok, Err, sym, ap, ◌∙◌, subst}
 use Rattle.vb_hist.specs.declared.entry.Entry.{Entry}
 use Rattle.vb_script.specs.declared.script.Script.{Script}
 use Rattle.vb_script.specs.declared.script.Form.TheVariants.{Rehearse}

@@ -1,5 +1,5 @@
 -- What a run may come to, and what is then written.
-use Rattle.std.specs.Prelude.{◌≡◌, ℕ, Bool, true, false, nat_eq, List, [], ◌∷◌, ◌++◌, take, codes, Option, Some, None, unwrap_or, Result, Ok, Err, ◌⊎◌}
+use Rattle.std.specs.Prelude.{◌≡◌, ℕ, Bool, true, false, nat_eq, List, [], ◌∷◌, ◌++◌, take, codes, Option, Some, unwrap_or, Result, Ok, Err, ◌⊎◌}
 use Rattle.std.specs.Cmp.Lexicographic.{pointwise}
 use Rattle.vb_tree.specs.declared.tree.Limits.{Limits}
 use Rattle.vb_hist.specs.declared.entry.Entry.{Entry}
