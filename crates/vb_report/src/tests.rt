@@ -125,21 +125,29 @@ fn replies_are_printed_behind_their_operations(rt: HostRuntime) -> Result<(), Fa
 }
 
 #[test]
-fn freezes_and_views_are_printed_with_their_epochs(rt: HostRuntime) -> Result<(), Fail> {
-    let limits = Limits {
-        pages: 2,
-        nodes: 16,
-    };
+fn freezes_are_printed_with_their_writers(rt: HostRuntime) -> Result<(), Fail> {
     expect(&rt, &Entry::Freeze { by: 3, epoch: 1 }, "w3 freeze 1\n")?;
     expect(&rt, &Entry::Freeze { by: 0, epoch: 2 }, "freeze 2\n")?;
     let busy = Entry::FreezeBusy {
         writer: 3,
         epoch: 1,
     };
-    expect(&rt, &busy, "w3 freeze busy 1\n")?;
+    expect(&rt, &busy, "w3 freeze busy 1\n")
+}
+
+#[test]
+fn views_are_printed_with_their_epochs(rt: HostRuntime) -> Result<(), Fail> {
+    let limits = Limits {
+        pages: 2,
+        nodes: 16,
+    };
     expect(&rt, &Entry::Publish { epoch: 1 }, "publish 1\n")?;
     expect(&rt, &Entry::Dropped { epoch: 1 }, "drop 1\n")?;
-    expect(&rt, &Entry::Cut { epoch: 1, limits }, "cut 1\n")?;
+    expect(&rt, &Entry::Cut { epoch: 1, limits }, "cut 1\n")
+}
+
+#[test]
+fn commits_doubts_and_ends_print_nothing(rt: HostRuntime) -> Result<(), Fail> {
     expect(&rt, &Entry::Commit { epoch: 1 }, "")?;
     expect(&rt, &Entry::Rest { epoch: 1 }, "")?;
     expect(&rt, &Entry::Doubt { epoch: 1 }, "")?;
