@@ -1,5 +1,5 @@
 -- What the lines of a quiet run make of a quiet folder.
-use Rattle.std.proofs.Common.{◌≡◌, ℕ, ◌+◌, Bool, true, false, cond, List, [], ◌∷◌, ◌++◌, sym, ap, ◌∙◌, append_assoc, ◌<◌, subst, rules}
+use Rattle.std.proofs.Common.{◌≡◌, ℕ, ◌+◌, Bool, true, false, cond, List, [], ◌∷◌, ◌++◌, Result, Ok, Err, OnOk, sym, ap, ◌∙◌, append_assoc, ◌<◌, subst, rules}
 use Rattle.std.proofs.lemmas.Grind.{fold-append}
 use Rattle.vb_tree.specs.declared.tree.TreeEntry.{TreeEntry}
 use Rattle.vb_tree.specs.declared.operation.Op.{Op}
@@ -31,6 +31,11 @@ quiet-call core writer op q =
           shown-call core.active core.published_tree op (is_done reply) (is_unfrozen core.history) q.shown
           (sym (fold-append unfrozen_after false core.history (entry ∷ [])) ∙ unfrozen);
     }
+
+-- where a call was made, the folder is as quiet as before
+pub quiet-called : {A E : Type 0} (outcome : Result A E) (core now : Core) (writer : ℕ) (op : Op) → IsQuiet core → OnOk outcome (now ≡ core_after core (events.Call writer op)) → OnOk outcome (IsQuiet now)
+quiet-called (Ok made) core now writer op q is = subst IsQuiet (sym is) (quiet-call core writer op q)
+quiet-called (Err error) core now writer op q is = tt
 
 pub quiet-end : (core : Core) (writer : ℕ) → IsQuiet core → IsQuiet (after_end core writer)
 quiet-end core writer q = record {

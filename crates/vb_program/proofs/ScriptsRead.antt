@@ -2,17 +2,18 @@
 use Rattle.std.proofs.Common.{◌≡◌, ℕ, ◌<◌, ◌≤◌, Bool, true, false, cond, List, [], length, take, drop, Option, Some, Result, Ok, Err, ltb, refl, sym, ap, ◌∙◌, arith}
 use Rattle.std.proofs.lemmas.List.{length-take, take-append-drop, drop_all}
 use Rattle.std.proofs.lemmas.Bool.{ltb-false}
-use Rattle.vb_hist.specs.declared.script.WriterScript.{WriterScript}
 use Rattle.vb_stream.specs.Streams.{TakesAtMost}
+use Rattle.vb_script.specs.declared.script.Form.{Form}
+use Rattle.vb_script.specs.declared.script.Script.{Script}
 use Rattle.vb_script.specs.declared.error.ScriptError.{ScriptError}
 use Rattle.vb_script.specs.Scripts.{script_of, most_bytes}
 
 -- a script that has a value has no more bytes than it may
-pub short-script : (bytes : List ℕ) (scripts : List WriterScript) → script_of bytes ≡ Ok scripts → length bytes ≤ 16777216
+pub short-script : (form : Form) (bytes : List ℕ) (script : Script) → script_of form bytes ≡ Ok script → length bytes ≤ 16777216
 unfolding script_of
-short-script bytes scripts h = at (ltb most_bytes (length bytes)) _ _ refl h
+short-script form bytes script h = at (ltb most_bytes (length bytes)) _ _ refl h
   where
-    at : (b : Bool) (e : ScriptError) (r : Result (List WriterScript) ScriptError) → ltb most_bytes (length bytes) ≡ b → cond b (Err e) r ≡ Ok scripts → length bytes ≤ 16777216
+    at : (b : Bool) (e : ScriptError) (r : Result Script ScriptError) → ltb most_bytes (length bytes) ≡ b → cond b (Err e) r ≡ Ok script → length bytes ≤ 16777216
     at true e r is h = cc
     at false e r is h = ltb-false most_bytes (length bytes) is
 

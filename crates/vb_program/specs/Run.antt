@@ -1,18 +1,22 @@
 -- What a run may come to, and what is then written.
-use Rattle.std.specs.Prelude.{◌≡◌, ℕ, Bool, true, false, nat_eq, List, [], ◌∷◌, ◌++◌, take, codes, Option, Some, Result, Ok, Err, ◌⊎◌}
+use Rattle.std.specs.Prelude.{◌≡◌, ℕ, Bool, true, false, nat_eq, List, [], ◌∷◌, ◌++◌, take, codes, Option, Some, unwrap_or, Result, Ok, Err, ◌⊎◌}
 use Rattle.std.specs.Cmp.Lexicographic.{pointwise}
 use Rattle.vb_tree.specs.declared.tree.Limits.{Limits}
 use Rattle.vb_hist.specs.declared.entry.Entry.{Entry}
-use Rattle.vb_hist.specs.declared.script.WriterScript.{WriterScript}
 use Rattle.vb_hist.specs.Histories.{folder_after}
 use Rattle.vb_hist.specs.Quiet.{quiet_history, last_epoch_of}
-use Rattle.vb_script.specs.Scripts.{script_of}
+use Rattle.vb_script.specs.Scripts.{script_of, page_limit}
+use Rattle.vb_script.specs.declared.script.DiskSize.{DiskSize}
+use Rattle.vb_script.specs.declared.script.Script.{Script}
+use Rattle.vb_script.specs.declared.script.Form.TheVariants.{Rehearse}
+use Rattle.vb_script.specs.declared.error.LineKind.{LineKind}
+use Rattle.vb_script.specs.declared.error.LineKind.TheVariants as kinds
 use Rattle.vb_script.specs.declared.error.ScriptError.{ScriptError}
 use Rattle.vb_script.specs.declared.error.ScriptError.TheVariants as script
-use Rattle.vb_report.specs.Text.{epoch_line, line_feed, history_text, listing_text}
+use Rattle.vb_report.specs.Text.{epoch_line, named_line, line_feed, history_text, listing_text}
 use Rattle.vb_stream.specs.Streams.{WritesFront}
 use Rattle.vb_program.specs.declared.ending.Ending.{Ending}
-use Rattle.vb_program.specs.declared.ending.Ending.TheVariants.{Whole, Words, Source, NotYet, Memory}
+use Rattle.vb_program.specs.declared.ending.Ending.TheVariants.{Whole, Words, Source, Wrong, NotYet, Memory}
 use Rattle.vb_program.specs.Playing.{GoesOn}
 
 -- whether the words are none, or the one word `rehearse`
@@ -21,37 +25,66 @@ are_words [] = true
 are_words (word ∷ []) = pointwise nat_eq word (codes "rehearse")
 are_words (word ∷ another ∷ words) = false
 
--- the limits of a rehearsal: 7,167 pages and 1,024 nodes
-abbrev pub limits_of_rehearsal : Limits
-limits_of_rehearsal = record { pages = 7167; nodes = 1024 }
+-- the disk of a script that names none: 16,384 blocks and 1,024 nodes
+abbrev pub usual_disk : DiskSize
+usual_disk = record { blocks = 16384; nodes = 1024 }
+
+-- the limits that a disk sets: the pages that it has room for, and its nodes
+abbrev pub limits_of_disk : DiskSize → Limits
+limits_of_disk disk = record { pages = page_limit disk.blocks disk.nodes; nodes = disk.nodes }
+
+-- the limits of a rehearsal: those of its script's disk
+abbrev pub limits_of : Script → Limits
+limits_of script = limits_of_disk (unwrap_or script.disk usual_disk)
 
 -- the most bytes that are read: one more than a script may have
 abbrev pub most_read : ℕ
 most_read = 16777217
 
 -- what the bytes that are read say
-abbrev pub script_in : List ℕ → Result (List WriterScript) ScriptError
-script_in input = script_of (take most_read input)
+abbrev pub script_in : List ℕ → Result Script ScriptError
+script_in input = script_of Rehearse (take most_read input)
 
--- the history of the quiet run of these scripts
-abbrev pub history_of_run : List WriterScript → List Entry
-history_of_run scripts = quiet_history limits_of_rehearsal scripts
+-- the history of the quiet run of a script
+abbrev pub history_of_run : Script → List Entry
+history_of_run script = quiet_history (limits_of script) script.writers
 
 -- the text of a history, and the listing of the folder after it
 abbrev pub whole_text : List Entry → List ℕ
 whole_text history = history_text history ++ listing_text (last_epoch_of history) (folder_after [] history)
 
+-- the name of what is wrong with a line
+abbrev pub kind_text : LineKind → List ℕ
+kind_text kinds.Unknown = codes "Unknown"
+kind_text kinds.Place = codes "Place"
+kind_text kinds.Words = codes "Words"
+kind_text kinds.Number = codes "Number"
+kind_text kinds.Hex = codes "Hex"
+kind_text kinds.Path = codes "Path"
+kind_text kinds.Range = codes "Range"
+kind_text kinds.Twice = codes "Twice"
+kind_text kinds.Long = codes "Long"
+
+-- the error line of a script that has a wrong line
+abbrev pub wrong_text : ℕ → LineKind → List ℕ
+wrong_text line kind = named_line (codes "error script ") line (kind_text kind)
+
+-- the error line of a script with a line that isn't played yet
+abbrev pub not_yet_text : ℕ → List ℕ
+not_yet_text line = epoch_line (codes "error notyet ") line
+
 -- the lines are those of a front of the quiet run's history; before the script is read there are none
 abbrev pub AreFirstLines : List ℕ → List ℕ → Type 0
 AreFirstLines input lines =
-    (lines ≡ []) ⊎ ((scripts : List WriterScript) × (front : List Entry)
-    × (script_in input ≡ Ok scripts) × GoesOn front (history_of_run scripts) × (lines ≡ history_text front))
+    (lines ≡ []) ⊎ ((script : Script) × (front : List Entry)
+    × (script_in input ≡ Ok script) × GoesOn front (history_of_run script) × (lines ≡ history_text front))
 
 -- the status of each ending
 abbrev pub status_of : Ending → ℕ
 status_of Whole = 0
 status_of Words = 2
 status_of Source = 3
+status_of (Wrong line kind) = 5
 status_of (NotYet line) = 11
 status_of Memory = 10
 
@@ -60,17 +93,20 @@ abbrev pub error_line : Ending → List ℕ
 error_line Whole = []
 error_line Words = codes "error words" ++ line_feed
 error_line Source = codes "error source" ++ line_feed
+error_line (Wrong line kind) = []
 error_line (NotYet line) = []
 error_line Memory = codes "error memory" ++ line_feed
 
 -- the lines before that error line, from these words and bytes
 abbrev pub Reports : List (List ℕ) → List ℕ → Ending → List ℕ → Type 0
 Reports words input Whole lines =
-    (are_words words ≡ true) × (scripts : List WriterScript) × (script_in input ≡ Ok scripts) × (lines ≡ whole_text (history_of_run scripts))
+    (are_words words ≡ true) × (script : Script) × (script_in input ≡ Ok script) × (lines ≡ whole_text (history_of_run script))
 Reports words input Words lines = (are_words words ≡ false) × (lines ≡ [])
 Reports words input Source lines = (are_words words ≡ true) × (lines ≡ [])
+Reports words input (Wrong line kind) lines =
+    (are_words words ≡ true) × (script_in input ≡ Err (script.Wrong line kind)) × (lines ≡ wrong_text line kind)
 Reports words input (NotYet line) lines =
-    (are_words words ≡ true) × (script_in input ≡ Err (script.NotYet line)) × (lines ≡ epoch_line (codes "error notyet ") line)
+    (are_words words ≡ true) × (script_in input ≡ Err (script.NotYet line)) × (lines ≡ not_yet_text line)
 Reports words input Memory lines = (are_words words ≡ true) × AreFirstLines input lines
 
 -- the text of a history and its listing, or the lines of a front of it, as far as memory was found
@@ -78,6 +114,23 @@ abbrev pub TellsHistory : List Entry → Ending → List ℕ → Type 0
 TellsHistory history Whole lines = lines ≡ whole_text history
 TellsHistory history Memory lines = (front : List Entry) × GoesOn front history × (lines ≡ history_text front)
 TellsHistory history other lines = ⊥
+
+-- the ending of a script that isn't read
+abbrev pub ending_at : ScriptError → Ending
+ending_at (script.Wrong line kind) = Wrong line kind
+ending_at (script.NotYet line) = NotYet line
+ending_at script.Memory = Memory
+
+-- its error line, where that has a number
+abbrev pub refusal_text : ScriptError → List ℕ
+refusal_text (script.Wrong line kind) = wrong_text line kind
+refusal_text (script.NotYet line) = not_yet_text line
+refusal_text script.Memory = []
+
+-- the error line of a script that isn't read, or nothing where memory ran out
+abbrev pub TellsRefusal : ScriptError → Ending → List ℕ → Type 0
+TellsRefusal error ending lines =
+    ((ending ≡ ending_at error) × (lines ≡ refusal_text error)) ⊎ ((ending ≡ Memory) × (lines ≡ []))
 
 -- all that is due at an ending: the lines, and then its error line
 abbrev pub IsDue : List (List ℕ) → List ℕ → Ending → List ℕ → Type 0
@@ -92,6 +145,12 @@ status_after_fault other = status_of other
 abbrev pub status_after_shortage : Ending → ℕ
 status_after_shortage Whole = 10
 status_after_shortage other = status_of other
+
+-- the statuses of a script that isn't read: that of its first wrong line, or of its first line that isn't played yet,
+-- unless the words, the source or the memory were wanting
+abbrev pub IsRefused : ScriptError → ℕ → Type 0
+IsRefused error status =
+    (status ≡ status_of (ending_at error)) ⊎ ((status ≡ status_of Words) ⊎ ((status ≡ status_of Source) ⊎ (status ≡ status_of Memory)))
 
 -- all that was due was written; or a write failed or found no memory, and a front of it was written
 abbrev pub IsWritten : Ending → ℕ → Type 0 → Type 0 → List ℕ → List ℕ → Option (List ℕ) → Type 0

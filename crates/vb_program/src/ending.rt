@@ -2,6 +2,8 @@
 ghost use Rattle.std.specs.Prelude.{◌≡◌};
 ghost use Rattle.vb_program.specs.Run.{status_of, error_line, status_after_fault, status_after_shortage};
 
+use vb_script::LineKind;
+
 /// What a run came to, before anything is written.
 #[derive(Clone, Copy, Debug, PartialEq, Eq)]
 pub enum Ending {
@@ -11,6 +13,8 @@ pub enum Ending {
     Words,
     /// The source failed.
     Source,
+    /// This line of the script is the first wrong one, or the script is too long.
+    Wrong { line: u64, kind: LineKind },
     /// This line of the script can't be played yet.
     NotYet { line: u64 },
     /// Memory ran out.
@@ -26,6 +30,7 @@ impl Ending {
             Ending::Whole => 0,
             Ending::Words => 2,
             Ending::Source => 3,
+            Ending::Wrong { .. } => 5,
             Ending::NotYet { .. } => 11,
             Ending::Memory => 10,
         }
@@ -36,7 +41,7 @@ impl Ending {
         ensures { result.now ≡ error_line self }
     {
         match self {
-            Ending::Whole | Ending::NotYet { .. } => b"",
+            Ending::Whole | Ending::Wrong { .. } | Ending::NotYet { .. } => b"",
             Ending::Words => b"error words\n",
             Ending::Source => b"error source\n",
             Ending::Memory => b"error memory\n",

@@ -3,6 +3,8 @@
 
 mod ending;
 mod quiet;
+mod refusal;
+mod rehearsal;
 mod run;
 
 pub use ending::Ending;

@@ -1,37 +1,27 @@
 // The top call: words and a script in, lines and a status out.
-ghost use Rattle.std.specs.Prelude.{◌≡◌, ◌≢◌, ◌++◌, ◌<◌, ◌≤◌, ◌⊎◌, ℕ, List, [], false, true, ◌↔◌, Some, Ok, Err, length, take, codes};
-ghost use Rattle.vb_hist.specs.Quiet.{AreInRange, line_count, is_unfrozen};
-ghost use Rattle.vb_report.specs.Text.{epoch_line};
-ghost use Rattle.vb_hist.specs.declared.script.WriterScript.{WriterScript};
+ghost use Rattle.std.specs.Prelude.{◌≡◌, ◌++◌, ◌⊎◌, ℕ, List, [], false, ◌↔◌, Some, Ok, Err};
+ghost use Rattle.vb_script.specs.declared.script.Script.{Script};
+ghost use Rattle.vb_script.specs.declared.error.LineKind.{LineKind};
+ghost use Rattle.vb_script.specs.declared.error.ScriptError.{ScriptError};
 ghost use Rattle.vb_script.specs.declared.error.ScriptError.TheVariants as script;
 ghost use Rattle.vb_cause.specs.Faults.{HasRisen};
 ghost use Rattle.vb_stream.specs.Streams.{TakesAtMost, WritesWhole};
 ghost use Rattle.vb_stream.specs.declared.sink.SinkError.{SinkError};
-ghost use Rattle.vb_program.specs.Playing.{IsQuiet};
 ghost use Rattle.vb_program.specs.declared.ending.Ending.{Ending};
-ghost use Rattle.vb_program.specs.Run.{are_words, most_read, script_in, Reports, TellsHistory, history_of_run, IsDue, IsWritten, error_line, status_of, status_after_fault, status_after_shortage};
+ghost use Rattle.vb_program.specs.Run.{are_words, most_read, script_in, Reports, IsDue, IsRefused, IsWritten, error_line, status_of, status_after_fault, status_after_shortage};
 
 use crate::ending::Ending;
-use crate::quiet::play_scripts;
+use crate::rehearsal::rehearse;
 use std::alloc::Global;
-use vb_core::Folder;
-use vb_hist::Scripts;
 use vb_report::Report;
-use vb_script::{ScriptError, read_script};
 use vb_stream::{ReadError, Sink, SinkError, Source, read_front, write_whole};
-use vb_tree::{Bytes, Limits};
+use vb_tree::Bytes;
 
 /// How a run ended, as the status of its process.
 #[derive(Clone, Copy, Debug, PartialEq, Eq)]
 pub struct Outcome {
     pub status: u8,
 }
-
-/// The limits of a rehearsal.
-const LIMITS: Limits = Limits {
-    pages: 7167,
-    nodes: 1024,
-};
 
 /// The most bytes that are read: one more than a script may have.
 const MOST_READ: usize = 16_777_217;
@@ -55,11 +45,16 @@ pub fn run<S: Source, O: Sink>(
     ensures source_fault { result.status ≡ 3 → HasRisen (S.faults source.old) (S.faults source.new) }
     ensures sink_fault { result.status ≡ 4 → HasRisen (O.faults sink.old) (O.faults sink.new) }
 
-    // 11 exactly where a line can't be played: it names the first one, and comes for no script that can.
+    // 5 exactly where a line is wrong and 11 exactly where a line can't be played yet, unless the words, the source or the
+    // memory were wanting: each names the first such line, and a script without one is played.
+    ensures refused { (input : List ℕ) → S.left source.old ≡ Some input → (error : ScriptError) → script_in input ≡ Err error →
+        IsRefused error result.status }
+    ensures wrong { (input : List ℕ) → S.left source.old ≡ Some input → result.status ≡ 5 →
+        (line : ℕ) × (kind : LineKind) × (script_in input ≡ Err (script.Wrong line kind)) }
     ensures not_yet { (input : List ℕ) → S.left source.old ≡ Some input → result.status ≡ 11 →
         (line : ℕ) × (script_in input ≡ Err (script.NotYet line)) }
     ensures whole { (input : List ℕ) → S.left source.old ≡ Some input → result.status ≡ 0 →
-        (scripts : List WriterScript) × (script_in input ≡ Ok scripts) }
+        (read : Script) × (script_in input ≡ Ok read) }
 
     // The source is read to its end where the run is whole, and never further than this.
     ensures read_whole { (input : List ℕ) → S.left source.old ≡ Some input → result.status ≡ 0 → S.left source.new ≡ Some [] }
@@ -100,76 +95,6 @@ fn are_words(words: &[Bytes]) -> bool
         [word] => word.slice() == b"rehearse".as_slice(),
         _ => false,
     }
-}
-
-/// Reads and plays a script. The report then has the lines that are due before the error line.
-fn rehearse(alloc: Global, bytes: &[u8], report: &mut Report) -> Ending
-    requires { report.old ≡ [] }
-    ensures reports { (words : List (List ℕ)) (input : List ℕ) → are_words words ≡ true → bytes.now ≡ take most_read input →
-        Reports words input result report.new }
-    ensures whole { result ≡ Ending.Whole → length bytes.now < most_read }
-    ensures no_words { result ≢ Ending.Words }
-    ensures no_source { result ≢ Ending.Source }
-{
-    match read_script(alloc, bytes) {
-        Ok(scripts) => play(alloc, scripts, report),
-        Err(ScriptError::NotYet { line }) => refuse(report, line),
-        Err(ScriptError::Memory) => Ending::Memory,
-    }
-}
-
-/// The line of a script that can't be played yet.
-fn refuse(report: &mut Report, line: u64) -> Ending
-    ensures refused { result ≡ Ending.NotYet line → report.new ≡ report.old ++ epoch_line (codes "error notyet ") line }
-    ensures memory { result ≢ Ending.NotYet line → (result ≡ Ending.Memory) × (report.new ≡ report.old) }
-{
-    match report.numbered(b"error notyet ", line) {
-        Ok(()) => Ending::NotYet { line },
-        Err(_) => Ending::Memory,
-    }
-}
-
-/// Plays scripts on a new folder, and reports its history and what was published.
-fn play(alloc: Global, scripts: Scripts, report: &mut Report) -> Ending
-    requires new { report.old ≡ [] }
-    requires range { AreInRange scripts }
-    requires few { line_count scripts ≤ most_read }
-    ensures { TellsHistory (history_of_run scripts) result report.new }
-{
-    let Ok(mut folder) = Folder::new(alloc, LIMITS) else {
-        return Ending::Memory;
-    };
-    match play_scripts(alloc, &mut folder, scripts) {
-        Ok(()) => report_whole(&folder, report),
-        Err(_) => report_front(&folder, report),
-    }
-}
-
-/// The lines of a folder's history and the listing of what it published.
-fn report_whole(folder: &Folder, report: &mut Report) -> Ending
-    requires new { report.old ≡ [] }
-    requires quiet { IsQuiet folder.now.core }
-    requires frozen { is_unfrozen folder.now.core.history ≡ false }
-    ensures { TellsHistory folder.now.core.history result report.new }
-{
-    let told = report.history(folder.history().entries());
-    if told.is_err() {
-        return Ending::Memory;
-    }
-    match report.listing(folder.cloud()) {
-        Ok(()) => Ending::Whole,
-        Err(_) => Ending::Memory,
-    }
-}
-
-/// The lines of a folder's history, as far as memory is found.
-fn report_front(folder: &Folder, report: &mut Report) -> Ending
-    requires new { report.old ≡ [] }
-    ensures memory { result ≡ Ending.Memory }
-    ensures front { TellsHistory folder.now.core.history Ending.Memory report.new }
-{
-    let _ = report.history(folder.history().entries());
-    Ending::Memory
 }
 
 /// Writes what is due, and answers the status.

@@ -5,11 +5,12 @@ use Rattle.vb_tree.specs.declared.tree.Kind.{Kind}
 use Rattle.vb_tree.specs.declared.tree.Kind.TheVariants.{Folder, File}
 use Rattle.vb_tree.specs.declared.tree.TreeEntry.{TreeEntry}
 use Rattle.vb_tree.specs.declared.operation.Op.{Op}
-use Rattle.vb_tree.specs.declared.operation.Op.TheVariants.{Create, Write}
-use Rattle.vb_tree.specs.declared.operation.Reply.{Reply}
-use Rattle.vb_tree.specs.declared.operation.Reply.TheVariants.{Done, Refused}
-use Rattle.vb_tree.specs.declared.operation.Refusal.{Refusal}
-use Rattle.vb_tree.specs.declared.operation.Refusal.TheVariants.{RootFixed, NoEntry, NoParent, ParentNotDir, Exists, NotAFile, TooLong, TooManyNodes, NoSpace}
+use Rattle.vb_tree.specs.declared.operation.Op.TheVariants as ops
+use Rattle.vb_tree.specs.declared.reply.Reply.{Reply}
+use Rattle.vb_tree.specs.declared.reply.Reply.TheVariants as replies
+use Rattle.vb_tree.specs.declared.reply.Refusal.{Refusal}
+use Rattle.vb_tree.specs.declared.reply.Refusal.TheVariants.{RootFixed, NoEntry, NoParent, ParentNotDir, Exists, NotAFile, NotADir, NotEmpty, IntoItself, DeepTree, TooLong, TooManyNodes, NoSpace}
+use Rattle.hex.specs.Hex.{encode_lower}
 use Rattle.vb_path.specs.Paths.{text_of_path}
 use Rattle.vb_hist.specs.declared.entry.Entry.{Entry}
 use Rattle.vb_hist.specs.declared.entry.Entry.TheVariants.{Call, Freeze, FreezeBusy, Commit, Rest, Publish, Doubt, Dropped, End, Cut}
@@ -50,19 +51,48 @@ refusal_text NoParent = codes "NoParent"
 refusal_text ParentNotDir = codes "ParentNotDir"
 refusal_text Exists = codes "Exists"
 refusal_text NotAFile = codes "NotAFile"
+refusal_text NotADir = codes "NotADir"
+refusal_text NotEmpty = codes "NotEmpty"
+refusal_text IntoItself = codes "IntoItself"
+refusal_text DeepTree = codes "DeepTree"
 refusal_text (TooLong len) = codes "TooLong " ++ decimal len
 refusal_text (TooManyNodes nodes limit) = codes "TooManyNodes " ++ numbers_text nodes limit
 refusal_text (NoSpace pages limit) = codes "NoSpace " ++ numbers_text pages limit
 
+-- the bytes of a file: two hexadecimal digits in lower case for each, and `-` where there are none
+abbrev pub bytes_text : List ℕ → List ℕ
+bytes_text [] = codes "-"
+bytes_text (b ∷ bs) = encode_lower (b ∷ bs)
+
+-- the names in a folder, a space before each
+abbrev pub names_text : List (List ℕ) → List ℕ
+names_text names = flat_map (λ name. codes " " ++ escaped name) names
+
+-- what stands at a path: a file's length behind it
+abbrev pub info_text : Kind → ℕ → List ℕ
+info_text Folder len = codes "folder"
+info_text File len = codes "file " ++ decimal len
+
 -- a reply
 unfoldable pub reply_text : Reply → List ℕ
-reply_text Done = codes "ok"
-reply_text (Refused refusal) = codes "refused " ++ refusal_text refusal
+reply_text replies.Done = codes "ok"
+reply_text (replies.Bytes bytes) = bytes_text bytes
+reply_text (replies.Names names) = decimal (length names) ++ names_text names
+reply_text (replies.Info kind len) = info_text kind len
+reply_text (replies.Refused refusal) = codes "refused " ++ refusal_text refusal
 
--- an operation: its word in a script, and its path
+-- an operation: its word in a script, and its path or both of them
 unfoldable pub op_text : Op → List ℕ
-op_text (Create path) = codes "create " ++ path_text path
-op_text (Write path offset bytes) = codes "write " ++ path_text path
+op_text (ops.Create path) = codes "create " ++ path_text path
+op_text (ops.MakeDir path) = codes "mkdir " ++ path_text path
+op_text (ops.Write path offset bytes) = codes "write " ++ path_text path
+op_text (ops.Truncate path len) = codes "truncate " ++ path_text path
+op_text (ops.Rename source target) = codes "rename " ++ path_text source ++ codes " " ++ path_text target
+op_text (ops.Remove path) = codes "rm " ++ path_text path
+op_text (ops.RemoveDir path) = codes "rmdir " ++ path_text path
+op_text (ops.Read path offset len) = codes "read " ++ path_text path
+op_text (ops.List path) = codes "ls " ++ path_text path
+op_text (ops.Stat path) = codes "stat " ++ path_text path
 
 -- a writer's number before what the writer did
 abbrev pub writer_text : ℕ → List ℕ
@@ -75,6 +105,10 @@ who_text by = if by == 0 then [] else writer_text by
 -- a word, and an epoch behind it
 abbrev pub epoch_line : List ℕ → ℕ → List ℕ
 epoch_line word epoch = word ++ decimal epoch ++ line_feed
+
+-- a word, a number behind it, and a name behind that
+abbrev pub named_line : List ℕ → ℕ → List ℕ → List ℕ
+named_line word number name = word ++ decimal number ++ codes " " ++ name ++ line_feed
 
 -- the line of an entry, and nothing for an entry that prints none
 unfoldable pub entry_text : Entry → List ℕ

@@ -5,3 +5,6 @@ mod line;
 mod report;
 
 pub use report::Report;
+
+#[cfg(test)]
+mod tests;

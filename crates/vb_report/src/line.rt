@@ -1,9 +1,9 @@
 // One line, piece by piece. After an error a line has some of the piece, and is of no use.
-ghost use Rattle.std.specs.Prelude.{◌≡◌, ◌++◌, ◌<◌, OnOk, codes, decimal};
-ghost use Rattle.vb_report.specs.Text.{hex_digit as digit_of, is_escaped as needs_escape, line_feed, escaped, path_text, refusal_text, reply_text, op_text, writer_text, who_text, epoch_line, numbers_text, entry_text, tree_entry_text};
+ghost use Rattle.std.specs.Prelude.{◌≡◌, ◌++◌, ◌<◌, OnOk, codes, decimal, length};
+ghost use Rattle.vb_report.specs.Text.{hex_digit as digit_of, is_escaped as needs_escape, line_feed, escaped, path_text, refusal_text, bytes_text, names_text, info_text, reply_text, op_text, writer_text, who_text, epoch_line, named_line, numbers_text, entry_text, tree_entry_text};
 
 use itoa::Buffer;
-use std::alloc::AllocError;
+use std::alloc::{AllocError, Global};
 use vb_hist::Entry;
 use vb_tree::{Bytes, Kind, Op, Path, Refusal, Reply, TreeEntry};
 
@@ -62,6 +62,10 @@ fn put_refusal(line: &mut Bytes, refusal: &Refusal) -> Result<(), AllocError>
         Refusal::ParentNotDir => line.extend(b"ParentNotDir"),
         Refusal::Exists => line.extend(b"Exists"),
         Refusal::NotAFile => line.extend(b"NotAFile"),
+        Refusal::NotADir => line.extend(b"NotADir"),
+        Refusal::NotEmpty => line.extend(b"NotEmpty"),
+        Refusal::IntoItself => line.extend(b"IntoItself"),
+        Refusal::DeepTree => line.extend(b"DeepTree"),
         Refusal::TooLong { length } => {
             line.extend(b"TooLong ")?;
             put_number(line, length)
@@ -86,12 +90,51 @@ fn put_numbers(line: &mut Bytes, name: &[u8], first: u64, second: u64) -> Result
     put_number(line, second)
 }
 
+/// Bytes in hexadecimal digits, and `-` where there are none.
+fn put_bytes(line: &mut Bytes, alloc: Global, bytes: &[u8]) -> Result<(), AllocError>
+    ensures { OnOk result (line.new ≡ line.old ++ bytes_text bytes.now) }
+{
+    if bytes.is_empty() {
+        return line.extend(b"-");
+    }
+    let digits = hex::encode(alloc, bytes)?;
+    line.extend(digits.as_bytes())
+}
+
+/// How many names there are, and then each behind a space.
+fn put_names(line: &mut Bytes, names: &[Bytes]) -> Result<(), AllocError>
+    ensures { OnOk result (line.new ≡ line.old ++ (decimal (length names.now) ++ names_text names.now)) }
+{
+    put_number(line, names.len() as u64)?;
+    for name in names {
+        line.extend(b" ")?;
+        put_escaped(line, name.slice())?;
+    }
+    Ok(())
+}
+
+/// What stands at a path.
+fn put_info(line: &mut Bytes, kind: Kind, length: u64) -> Result<(), AllocError>
+    ensures { OnOk result (line.new ≡ line.old ++ info_text kind length) }
+{
+    match kind {
+        Kind::Folder => line.extend(b"folder"),
+        Kind::File => {
+            line.extend(b"file ")?;
+            put_number(line, length)
+        }
+    }
+}
+
 #[tactic(auto, unfolding(crate::specs::Text::reply_text))]
-fn put_reply(line: &mut Bytes, reply: &Reply) -> Result<(), AllocError>
+fn put_reply(line: &mut Bytes, alloc: Global, reply: &Reply) -> Result<(), AllocError>
     ensures { OnOk result (line.new ≡ line.old ++ reply_text reply.now) }
 {
     match reply {
         Reply::Done => line.extend(b"ok"),
+        Reply::Bytes(bytes) => put_bytes(line, alloc, bytes.slice()),
+        Reply::Names(names) => put_names(line, names.slice()),
+        Reply::Info { kind, length } => put_info(line, *kind, *length),
         Reply::Refused(refusal) => {
             line.extend(b"refused ")?;
             put_refusal(line, refusal)
@@ -99,19 +142,40 @@ fn put_reply(line: &mut Bytes, reply: &Reply) -> Result<(), AllocError>
     }
 }
 
+/// A word, and a path behind it.
+fn put_at(line: &mut Bytes, word: &[u8], path: &Path) -> Result<(), AllocError>
+    ensures { OnOk result (line.new ≡ line.old ++ (word.now ++ path_text path.now)) }
+{
+    line.extend(word)?;
+    put_path(line, path)
+}
+
+/// A rename, with both paths.
+fn put_rename(line: &mut Bytes, source: &Path, target: &Path) -> Result<(), AllocError>
+    ensures { OnOk result (line.new ≡ line.old ++ (codes "rename " ++ path_text source.now ++ codes " " ++ path_text target.now)) }
+{
+    line.extend(b"rename ")?;
+    put_path(line, source)?;
+    line.extend(b" ")?;
+    put_path(line, target)
+}
+
+/// An operation's word and its path, or both of its paths.
 #[tactic(auto, unfolding(crate::specs::Text::op_text))]
 fn put_op(line: &mut Bytes, op: &Op) -> Result<(), AllocError>
     ensures { OnOk result (line.new ≡ line.old ++ op_text op.now) }
 {
     match op {
-        Op::Create { path } => {
-            line.extend(b"create ")?;
-            put_path(line, path)
-        }
-        Op::Write { path, .. } => {
-            line.extend(b"write ")?;
-            put_path(line, path)
-        }
+        Op::Create { path } => put_at(line, b"create ", path),
+        Op::MakeDir { path } => put_at(line, b"mkdir ", path),
+        Op::Write { path, .. } => put_at(line, b"write ", path),
+        Op::Truncate { path, .. } => put_at(line, b"truncate ", path),
+        Op::Rename { source, target } => put_rename(line, source, target),
+        Op::Remove { path } => put_at(line, b"rm ", path),
+        Op::RemoveDir { path } => put_at(line, b"rmdir ", path),
+        Op::Read { path, .. } => put_at(line, b"read ", path),
+        Op::List { path } => put_at(line, b"ls ", path),
+        Op::Stat { path } => put_at(line, b"stat ", path),
     }
 }
 
@@ -121,6 +185,17 @@ pub fn put_epoch(line: &mut Bytes, word: &[u8], epoch: u64) -> Result<(), AllocE
 {
     line.extend(word)?;
     put_number(line, epoch)?;
+    line.extend(b"\n")
+}
+
+/// A word, a number behind it, and a name behind that.
+pub fn put_named(line: &mut Bytes, word: &[u8], number: u64, name: &[u8]) -> Result<(), AllocError>
+    ensures { OnOk result (line.new ≡ line.old ++ named_line word.now number name.now) }
+{
+    line.extend(word)?;
+    put_number(line, number)?;
+    line.extend(b" ")?;
+    line.extend(name)?;
     line.extend(b"\n")
 }
 
@@ -148,23 +223,29 @@ fn put_writer(line: &mut Bytes, writer: u32) -> Result<(), AllocError>
     line.extend(b" ")
 }
 
-fn put_call(line: &mut Bytes, writer: u32, op: &Op, reply: &Reply) -> Result<(), AllocError>
+fn put_call(
+    line: &mut Bytes,
+    alloc: Global,
+    writer: u32,
+    op: &Op,
+    reply: &Reply,
+) -> Result<(), AllocError>
     ensures { OnOk result (line.new ≡ line.old ++ (writer_text writer ++ op_text op.now ++ codes " " ++ reply_text reply.now ++ line_feed)) }
 {
     put_writer(line, writer)?;
     put_op(line, op)?;
     line.extend(b" ")?;
-    put_reply(line, reply)?;
+    put_reply(line, alloc, reply)?;
     line.extend(b"\n")
 }
 
 /// The line of an entry.
 #[tactic(auto, unfolding(crate::specs::Text::entry_text))]
-pub fn put_entry(line: &mut Bytes, entry: &Entry) -> Result<(), AllocError>
+pub fn put_entry(line: &mut Bytes, alloc: Global, entry: &Entry) -> Result<(), AllocError>
     ensures { OnOk result (line.new ≡ line.old ++ entry_text entry.now) }
 {
     match entry {
-        Entry::Call { writer, op, reply } => put_call(line, *writer, op, reply),
+        Entry::Call { writer, op, reply } => put_call(line, alloc, *writer, op, reply),
         Entry::Freeze { by, epoch } => {
             put_who(line, *by)?;
             put_epoch(line, b"freeze ", *epoch)

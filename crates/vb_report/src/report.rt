@@ -1,8 +1,8 @@
 // A report: lines of a history and a listing, in one buffer.
 ghost use Rattle.std.specs.Prelude.{◌≡◌, ◌++◌, ◌≤◌, ℕ, [], length, take, OnOk, OnErr};
-ghost use Rattle.vb_report.specs.Text.{entry_text, history_text, epoch_line, listing_text, tree_entry_text};
+ghost use Rattle.vb_report.specs.Text.{entry_text, history_text, epoch_line, named_line, listing_text, tree_entry_text};
 
-use crate::line::{put_entry, put_epoch, put_heading, put_listed};
+use crate::line::{put_entry, put_epoch, put_heading, put_listed, put_named};
 use std::alloc::{AllocError, Global};
 use std::marker::Model;
 use vb_cloud::Cloud;
@@ -13,6 +13,7 @@ use vb_tree::{Bytes, TreeEntry};
 /// Lines to be printed. Contracts see their bytes.
 #[derive(Debug, Drop)]
 pub struct Report {
+    alloc: Global,
     text: Bytes,
     line: Bytes,
 }
@@ -31,6 +32,7 @@ impl Report {
         ensures { result ≡ [] }
     {
         Report {
+            alloc,
             text: Items::new(alloc),
             line: Items::new(alloc),
         }
@@ -49,7 +51,7 @@ impl Report {
         ensures err { OnErr result (self.new ≡ self.old) }
     {
         self.line.truncate(0);
-        put_entry(&mut self.line, entry)?;
+        put_entry(&mut self.line, self.alloc, entry)?;
         self.text.extend(self.line.slice())
     }
 
@@ -60,6 +62,16 @@ impl Report {
     {
         self.line.truncate(0);
         put_epoch(&mut self.line, words, number)?;
+        self.text.extend(self.line.slice())
+    }
+
+    /// Adds a line of these words, a number behind them, and a name behind that.
+    pub fn named(&mut self, words: &[u8], number: u64, name: &[u8]) -> Result<(), AllocError>
+        ensures ok { OnOk result (self.new ≡ self.old ++ named_line words.now number name.now) }
+        ensures err { OnErr result (self.new ≡ self.old) }
+    {
+        self.line.truncate(0);
+        put_named(&mut self.line, words, number, name)?;
         self.text.extend(self.line.slice())
     }
 

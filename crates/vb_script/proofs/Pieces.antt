@@ -3,8 +3,8 @@ use Rattle.std.proofs.Common.{◌≡◌, ℕ, suc, ◌+◌, ◌<◌, true, false
 use Rattle.std.specs.List.{position_or_len, slice_split, onto_first}
 use Rattle.std.proofs.lemmas.Bool.Decides.{nat_tests}
 use Rattle.vb_script.specs.declared.error.LineKind.TheVariants.{Words}
-use Rattle.vb_script.specs.Words.{words_of}
-use Rattle.vb_script.specs.Lines.{no_word}
+use Rattle.vb_script.specs.declared.error.LineError.TheVariants.{Wrong}
+use Rattle.vb_script.specs.Words.{words_of, no_word}
 
 -- the first separator ends the first piece, and without one there is one piece
 pieces_at : (s : ℕ) (text : List ℕ) → ((length text ≡ position_or_len (λ b. b == s) text) × (slice_split (λ b. b == s) text ≡ text ∷ [])) ⊎ ((position_or_len (λ b. b == s) text < length text) × (slice_split (λ b. b == s) text ≡ take (position_or_len (λ b. b == s) text) text ∷ slice_split (λ b. b == s) (drop (suc (position_or_len (λ b. b == s) text)) text)))
@@ -30,10 +30,10 @@ pieces-position s text =
     ]
 
 -- there is at least one word
-pub no_word-words_of : (text : List ℕ) → no_word (words_of text) ≡ Err Words
+pub no_word-words_of : (text : List ℕ) → no_word (words_of text) ≡ Err (Wrong Words)
 no_word-words_of [] = refl
 no_word-words_of (b ∷ bs) =
-    let P : List (List ℕ) → Type 0 = λ ps. no_word ps ≡ Err Words in
+    let P : List (List ℕ) → Type 0 = λ ps. no_word ps ≡ Err (Wrong Words) in
     elim (b == 32) as (λ v. P (cond v ([] ∷ words_of bs) (onto_first b (words_of bs)))) [
       | true ↦ refl
       | false ↦ elim (words_of bs) as (λ ps. P (onto_first b ps)) [ [] ↦ refl | p ∷ ps ↦ refl ]

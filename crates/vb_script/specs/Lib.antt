@@ -1,3 +1,6 @@
+pub mod Steps
 pub mod Words
+pub mod Commands
 pub mod Lines
 pub mod Scripts
+pub mod Sound

@@ -1,21 +1,27 @@
--- Scripts: from the bytes to the writers' scripts, or to the first line that isn't of the form.
-use Rattle.std.specs.Prelude.{◌≡◌, ℕ, ◌+◌, ◌≤◌, Bool, true, nat_lt, ◌==◌, if◌then◌else◌, List, [], ◌∷◌, ◌++◌, length, take, count_by, Option, Some, None, Result, Ok, Err}
-use Rattle.std.specs.List.{AllByRecursion}
+-- Scripts: from the bytes to what they say, or to the first line that isn't read.
+use Rattle.std.specs.Prelude.{◌≡◌, ℕ, ◌+◌, ◌-◌, ◌*◌, ◌/◌, ◌≤◌, Bool, true, false, not, nat_lt, nat_le, ◌==◌, ◌&&◌, is_none, if◌then◌else◌, List, [], ◌∷◌, ◌++◌, length, take, count_by, Option, Some, None, Result, Ok, Err}
+use Rattle.std.specs.List.{list_any, AllByRecursion}
 use Rattle.std.specs.Option.{option_to_list}
 use Rattle.vb_hist.specs.declared.script.Line.{Line}
 use Rattle.vb_hist.specs.declared.script.WriterScript.{WriterScript}
-use Rattle.vb_hist.specs.Quiet.{IsLineInRange}
+use Rattle.vb_hist.specs.Quiet.{IsLineInRange, AreInRange, line_count}
 use Rattle.vb_script.specs.declared.error.LineKind.{LineKind}
 use Rattle.vb_script.specs.declared.error.LineKind.TheVariants as kind
 use Rattle.vb_script.specs.declared.error.LineError.{LineError}
-use Rattle.vb_script.specs.declared.error.LineError.TheVariants.{Wrong}
-use Rattle.vb_script.specs.declared.error.LineError.TheVariants as errors
+use Rattle.vb_script.specs.declared.error.LineError.TheVariants as line
 use Rattle.vb_script.specs.declared.error.ScriptError.{ScriptError}
-use Rattle.vb_script.specs.declared.error.ScriptError.TheVariants.{NotYet, Memory}
+use Rattle.vb_script.specs.declared.error.ScriptError.TheVariants.{Wrong, NotYet, Memory}
 use Rattle.vb_script.specs.declared.command.Command.{Command}
-use Rattle.vb_script.specs.declared.command.Command.TheVariants.{Writer, InSection}
-use Rattle.vb_script.specs.Words.{lines_of, words_of, number_of}
-use Rattle.vb_script.specs.Lines.{◌>>=◌, or_wrong, in_range, one_word, command_of, line_of}
+use Rattle.vb_script.specs.declared.command.Command.TheVariants.{Disk, Writer, Schedule, InSchedule, InSection}
+use Rattle.vb_script.specs.declared.script.Form.{Form}
+use Rattle.vb_script.specs.declared.script.Form.TheVariants.{Rehearse, Run}
+use Rattle.vb_script.specs.declared.script.DiskSize.{DiskSize}
+use Rattle.vb_script.specs.declared.script.Script.{Script}
+use Rattle.vb_script.specs.declared.draft.Draft.{Draft}
+use Rattle.vb_script.specs.Steps.{◌>>=◌, provided}
+use Rattle.vb_script.specs.Words.{lines_of, words_of, one_word, two_words, no_word, a_number}
+use Rattle.vb_script.specs.Commands.{a_command}
+use Rattle.vb_script.specs.Lines.{line_of}
 
 -- the most bytes that a script has
 abbrev pub most_bytes : ℕ
@@ -26,91 +32,155 @@ abbrev pub is_skipped : List ℕ → Bool
 is_skipped [] = true
 is_skipped (b ∷ bs) = b == 35
 
+-- whether a form has a disk and a schedule: a rehearsal has
+abbrev pub is_rehearsal : Form → Bool
+is_rehearsal Rehearse = true
+is_rehearsal Run = false
+
+-- nothing is read so far
+abbrev pub blank : Draft
+blank = record { disk = None; ended = []; section = None }
+
+-- whether nothing is read so far: a disk is read first, and a section is there from the first writer on
+abbrev pub is_blank : Draft → Bool
+is_blank draft = is_none draft.disk && is_none draft.section
+
+-- the sections so far: those that ended, and the one that lines go into
+abbrev pub sections_of : Draft → List WriterScript
+sections_of draft = draft.ended ++ option_to_list draft.section
+
+-- whether a writer has this number
+abbrev pub has_writer : ℕ → List WriterScript → Bool
+has_writer writer scripts = list_any (λ script. script.writer == writer) scripts
+
+-- how many pages a disk of this size has room for: half of the blocks past the two heads, the nodes and the journal
+abbrev pub page_limit : ℕ → ℕ → ℕ
+page_limit blocks nodes = (blocks - 2 - 2 * nodes) / 2
+
+-- whether a script's disk may have this size
+abbrev pub is_disk : ℕ → ℕ → Bool
+is_disk blocks nodes = nat_le 16 nodes && nat_le nodes 65536 && nat_le blocks 65536 && nat_le 2 (page_limit blocks nodes)
+
+-- `disk BLOCKS NODES`
+unfoldable pub disk_line : List (List ℕ) → Result DiskSize LineError
+disk_line words = do
+  two ← two_words words
+  blocks ← a_number two.0
+  nodes ← a_number two.1
+  provided kind.Range (is_disk blocks nodes) (Ok (record { blocks = blocks; nodes = nodes }))
+
+-- `writer N`: a number from 1 to 64 that no writer has
+unfoldable pub writer_line : List WriterScript → List (List ℕ) → Result ℕ LineError
+writer_line scripts words = do
+  word ← one_word words
+  writer ← a_number word
+  provided kind.Range (nat_le 1 writer && nat_le writer 64)
+      (provided kind.Twice (not (has_writer writer scripts)) (Ok writer))
+
+-- `schedule`, which isn't read yet
+unfoldable pub schedule_line : List (List ℕ) → Result Draft LineError
+schedule_line words = do
+  nothing ← no_word words
+  Err line.NotYet
+
+-- the draft with the disk that a line gives
+abbrev pub with_disk : Draft → Result DiskSize LineError → Result Draft LineError
+with_disk draft read = do
+  disk ← read
+  Ok (record draft { disk = Some disk })
+
+-- the draft with the section that a writer's line begins, which the last one ends at
+abbrev pub with_writer : Draft → Result ℕ LineError → Result Draft LineError
+with_writer draft read = do
+  writer ← read
+  Ok (record draft { ended = sections_of draft; section = Some (record { writer = writer; lines = [] }) })
+
 -- the section with one more line
 abbrev pub with_line : WriterScript → Line → WriterScript
 with_line section line = record section { lines = section.lines ++ line ∷ [] }
 
--- the section that begins by `writer N`: here the writer's number is 1
-unfoldable pub section_of : List (List ℕ) → Result WriterScript LineKind
-section_of words = do
-  word ← one_word words
-  writer ← or_wrong kind.Number (number_of word)
-  in_range (writer == 1) (record { writer = writer; lines = [] })
+-- the draft with one more line of its section: where there is no section, a line of one has no place
+abbrev pub with_section_line : Draft → Option WriterScript → Result Line LineError → Result Draft LineError
+with_section_line draft None read = Err (line.Wrong kind.Place)
+with_section_line draft (Some section) read = do
+  next ← read
+  Ok (record draft { section = Some (with_line section next) })
 
--- the section after one more command: `writer 1` comes first and once, and what else a line says belongs to its section
-abbrev pub section_after : Option WriterScript → Command → List (List ℕ) → Result WriterScript LineKind
-section_after None Writer words = section_of words
-section_after None (InSection verb) words = Err kind.Place
-section_after (Some section) Writer words = Err kind.Place
-section_after (Some section) (InSection verb) words = do
-  line ← line_of verb words
-  Ok (with_line section line)
+-- the draft after one more command: its place comes first, and then its words. A disk comes first, and it and a schedule
+-- belong to a rehearsal; a writer may come anywhere; an operation or a freeze belongs to a section; and a line of a schedule
+-- has no place before the schedule
+abbrev pub after_command : Form → Draft → Command → List (List ℕ) → Result Draft LineError
+after_command form draft Disk words = provided kind.Place (is_rehearsal form && is_blank draft) (with_disk draft (disk_line words))
+after_command form draft Writer words = with_writer draft (writer_line (sections_of draft) words)
+after_command form draft (InSection verb) words = with_section_line draft draft.section (line_of verb words)
+after_command form draft Schedule words = provided kind.Place (is_rehearsal form) (schedule_line words)
+after_command form draft InSchedule words = Err (line.Wrong kind.Place)
 
--- the section after the words of one more line
-abbrev pub after_words : Option WriterScript → List (List ℕ) → Result WriterScript LineKind
-after_words section [] = Err kind.Unknown
-after_words section (word ∷ words) = do
-  command ← command_of word
-  section_after section command words
+-- the draft after the words of one more line
+abbrev pub after_words : Form → Draft → List (List ℕ) → Result Draft LineError
+after_words form draft [] = Err (line.Wrong kind.Unknown)
+after_words form draft (word ∷ words) = do
+  command ← a_command word
+  after_command form draft command words
 
--- a section that is there
-abbrev pub begun : Result WriterScript LineKind → Result (Option WriterScript) LineKind
-begun read = do
-  section ← read
-  Ok (Some section)
+-- the draft after one more line
+unfoldable pub after_line : Form → Draft → List ℕ → Result Draft LineError
+after_line form draft line = if is_skipped line then Ok draft else after_words form draft (words_of line)
 
--- the section after one more line
-unfoldable pub after_line : Option WriterScript → List ℕ → Result (Option WriterScript) LineKind
-after_line section line = if is_skipped line then Ok section else begun (after_words section (words_of line))
+-- the refusal at a line that isn't read
+abbrev pub refusal_at : ℕ → LineError → ScriptError
+refusal_at number (line.Wrong kind) = Wrong number kind
+refusal_at number line.NotYet = NotYet number
+refusal_at number line.Memory = Memory
 
--- what follows a line that was read, and the refusal at a line that is wrong
-abbrev pub at_line : {A B : Type 0} → ℕ → Result A LineKind → (A → Result B ScriptError) → Result B ScriptError
+-- what follows a line that was read, and the refusal at a line that isn't
+abbrev pub at_line : {A B : Type 0} → ℕ → Result A LineError → (A → Result B ScriptError) → Result B ScriptError
 at_line number (Ok value) next = next value
-at_line number (Err kind) next = Err (NotYet number)
+at_line number (Err error) next = Err (refusal_at number error)
 
--- the section after all of these lines, the first of which has this number
-unfoldable pub after_lines : ℕ → Option WriterScript → List (List ℕ) → Result (Option WriterScript) ScriptError
-after_lines number section [] = Ok section
-after_lines number section (line ∷ lines) = at_line number (after_line section line) (λ next. after_lines (number + 1) next lines)
+-- the draft after all of these lines, the first of which has this number
+unfoldable pub after_lines : Form → ℕ → Draft → List (List ℕ) → Result Draft ScriptError
+after_lines form number draft [] = Ok draft
+after_lines form number draft (line ∷ lines) = at_line number (after_line form draft line) (λ next. after_lines form (number + 1) next lines)
 
--- the writers' scripts: none without a section
-abbrev pub scripts_in : Result (Option WriterScript) ScriptError → Result (List WriterScript) ScriptError
-scripts_in (Ok section) = Ok (option_to_list section)
-scripts_in (Err error) = Err error
+-- what a draft says at its end
+abbrev pub script_in : Draft → Script
+script_in draft = record { disk = draft.disk; writers = sections_of draft }
+
+-- the script of a draft that was read to its end
+abbrev pub finished : Result Draft ScriptError → Result Script ScriptError
+finished (Ok draft) = Ok (script_in draft)
+finished (Err error) = Err error
 
 -- the number of the line that has the byte at a place: one more than the line ends before it
 abbrev pub line_at : ℕ → List ℕ → ℕ
 line_at place bytes = count_by (λ b. b == 10) (take place bytes) + 1
 
--- what a script says: too many bytes come before all else, and then the first wrong line
-unfoldable pub script_of : List ℕ → Result (List WriterScript) ScriptError
-script_of bytes =
-    if nat_lt most_bytes (length bytes) then Err (NotYet (line_at most_bytes bytes))
-    else scripts_in (after_lines 1 None (lines_of bytes))
+-- what a script says: too many bytes come before all else, and then the first line that isn't read
+unfoldable pub script_of : Form → List ℕ → Result Script ScriptError
+script_of form bytes =
+    if nat_lt most_bytes (length bytes) then Err (Wrong (line_at most_bytes bytes) kind.Long)
+    else finished (after_lines form 1 blank (lines_of bytes))
 
--- the refusal at a line that isn't read
-abbrev pub refusal_at : ℕ → LineError → ScriptError
-refusal_at number (Wrong kind) = NotYet number
-refusal_at number errors.Memory = Memory
-
--- how many lines a section has
-abbrev pub lines_in : Option WriterScript → ℕ
-lines_in None = 0
-lines_in (Some section) = length section.lines
-
--- a section that may be handed on: its lines are in their ranges, and its writer's number is at most 64
-abbrev pub IsSoundSection : Option WriterScript → Type 0
-IsSoundSection None = Unit {0}
-IsSoundSection (Some section) = AllByRecursion IsLineInRange section.lines × (section.writer ≤ 64)
-
--- the section that was read is the one that is due, unless memory ran out
-abbrev pub IsSectionOf : Result (Option WriterScript) ScriptError → Result (Option WriterScript) ScriptError → Type 0
-IsSectionOf (Ok section) due = due ≡ Ok section
-IsSectionOf (Err (NotYet line)) due = due ≡ Err (NotYet line)
-IsSectionOf (Err Memory) due = Unit {0}
+-- what was read is what is due, unless memory ran out
+abbrev pub IsDue : {A : Type 0} → Result A ScriptError → Result A ScriptError → Type 0
+IsDue due (Ok value) = due ≡ Ok value
+IsDue due (Err (Wrong line kind)) = due ≡ Err (Wrong line kind)
+IsDue due (Err (NotYet line)) = due ≡ Err (NotYet line)
+IsDue due (Err Memory) = Unit {0}
 
 -- what was read is what the script says, unless memory ran out
-abbrev pub IsScriptOf : List ℕ → Result (List WriterScript) ScriptError → Type 0
-IsScriptOf bytes (Ok scripts) = script_of bytes ≡ Ok scripts
-IsScriptOf bytes (Err (NotYet line)) = script_of bytes ≡ Err (NotYet line)
-IsScriptOf bytes (Err Memory) = Unit {0}
+abbrev pub IsScriptOf : Form → List ℕ → Result Script ScriptError → Type 0
+IsScriptOf form bytes result = IsDue (script_of form bytes) result
+
+-- a disk's size is within the limits of scripts
+pub record IsDiskInLimits (disk : DiskSize) : Type 0 where
+  pub least_nodes : 16 ≤ disk.nodes
+  pub most_nodes : disk.nodes ≤ 65536
+  pub most_blocks : disk.blocks ≤ 65536
+  pub least_pages : 2 ≤ page_limit disk.blocks disk.nodes
+
+-- the writers' numbers are from 1 to 64, and no two are equal
+abbrev pub AreWriters : List WriterScript → Type 0
+AreWriters [] = Unit {0}
+AreWriters (script ∷ scripts) = (1 ≤ script.writer) × (script.writer ≤ 64) × (has_writer script.writer scripts ≡ false) × AreWriters scripts

@@ -1,12 +1,15 @@
 -- Words: the pieces of a text, and what a word stands for.
-use Rattle.std.specs.Prelude.{ℕ, ◌^◌, Bool, not, ◌&&◌, ◌||◌, nat_lt, nat_le, ◌==◌, if◌then◌else◌, List, [], ◌∷◌, length, get_or, Option, Some, None, Result, Ok}
-use Rattle.std.specs.List.{slice_split, list_all, list_any}
+use Rattle.std.specs.Prelude.{ℕ, ◌+◌, ◌*◌, ◌^◌, Bool, not, ◌&&◌, ◌||◌, nat_lt, nat_le, ◌==◌, if◌then◌else◌, List, [], ◌∷◌, length, get_or, Option, Some, None, Result, Ok, Err}
+use Rattle.std.specs.List.{slice_split, list_all}
 use Rattle.std.specs.Result.{result_ok}
 use Rattle.std.specs.Char.{is_ascii_digit}
 use Rattle.std.specs.Str.Parse.{digits_value}
-use Rattle.hex.specs.Hex.{decode_of}
-use Rattle.vb_path.specs.declared.path.PathError.{PathError}
+use Rattle.hex.specs.Hex.{decode_of, hex_digit_value}
 use Rattle.vb_path.specs.Paths.{path_of}
+use Rattle.vb_script.specs.declared.error.LineKind.TheVariants as kind
+use Rattle.vb_script.specs.declared.error.LineError.{LineError}
+use Rattle.vb_script.specs.declared.error.LineError.TheVariants.{Wrong}
+use Rattle.vb_script.specs.Steps.{◌>>=◌, or_wrong}
 
 -- the lines of a script, between its line ends. What follows the last line end is a line, too: where nothing does, it is empty
 abbrev pub lines_of : List ℕ → List (List ℕ)
@@ -21,6 +24,41 @@ abbrev pub words_in : Option (List ℕ) → List (List ℕ)
 words_in None = []
 words_in (Some rest) = words_of rest
 
+-- the next of the words, which is there and isn't empty, and the words after it
+abbrev pub next_word : List (List ℕ) → Result (List ℕ × List (List ℕ)) LineError
+next_word [] = Err (Wrong kind.Words)
+next_word ([] ∷ words) = Err (Wrong kind.Words)
+next_word ((b ∷ bs) ∷ words) = Ok (b ∷ bs, words)
+
+-- no words are left
+abbrev pub no_word : List (List ℕ) → Result Unit LineError
+no_word [] = Ok tt
+no_word (word ∷ words) = Err (Wrong kind.Words)
+
+-- exactly one word
+unfoldable pub one_word : List (List ℕ) → Result (List ℕ) LineError
+one_word words = do
+  first ← next_word words
+  end ← no_word first.1
+  Ok first.0
+
+-- exactly two words
+unfoldable pub two_words : List (List ℕ) → Result (List ℕ × List ℕ) LineError
+two_words words = do
+  first ← next_word words
+  second ← next_word first.1
+  end ← no_word second.1
+  Ok (first.0, second.0)
+
+-- exactly three words
+unfoldable pub three_words : List (List ℕ) → Result (List ℕ × List ℕ × List ℕ) LineError
+three_words words = do
+  first ← next_word words
+  second ← next_word first.1
+  third ← next_word second.1
+  end ← no_word third.1
+  Ok (first.0, second.0, third.0)
+
 -- whether a word has one to twenty decimal digits and nothing else, and no zero before others
 abbrev pub is_numeral : List ℕ → Bool
 is_numeral word =
@@ -31,15 +69,43 @@ is_numeral word =
 unfoldable pub number_of : List ℕ → Option ℕ
 number_of word = if is_numeral word && nat_lt (digits_value 10 word) (2 ^ 64) then Some (digits_value 10 word) else None
 
--- the bytes that a word of hexadecimal digits stands for, two digits a byte
+-- NUMBER
+abbrev pub a_number : List ℕ → Result ℕ LineError
+a_number word = or_wrong kind.Number (number_of word)
+
+-- the bytes that a word of hexadecimal digits stands for, two digits of either case a byte
 unfoldable pub bytes_of : List ℕ → Option (List ℕ)
 bytes_of word = result_ok (decode_of word)
 
--- the path, where it has exactly one part
-abbrev pub of_one_part : Result (List (List ℕ)) PathError → Option (List (List ℕ))
-of_one_part (Ok (part ∷ [])) = Some (part ∷ [])
-of_one_part other = None
+-- HEX
+abbrev pub some_bytes : List ℕ → Result (List ℕ) LineError
+some_bytes word = or_wrong kind.Hex (bytes_of word)
 
--- the path that a word stands for: one of exactly one part, with no `%`
+-- the byte of two hexadecimal digits of either case
+abbrev pub byte_of_digits : Option ℕ → Option ℕ → Option ℕ
+byte_of_digits (Some high) (Some low) = Some (16 * high + low)
+byte_of_digits high low = None
+
+-- the byte that stands at the front of three bytes: `%` and two hexadecimal digits are one
+abbrev pub escape_of : ℕ → ℕ → ℕ → Option ℕ
+escape_of first high low = if first == 37 then byte_of_digits (hex_digit_value high) (hex_digit_value low) else None
+
+-- a byte that stands before the rest, which is another where there was an escape
+abbrev pub byte_before : Option ℕ → ℕ → List ℕ → List ℕ → List ℕ
+byte_before (Some byte) first after_escape after_first = byte ∷ after_escape
+byte_before None first after_escape after_first = first ∷ after_first
+
+-- the bytes that a word stands for: `%` and two hexadecimal digits stand for a byte, and every other byte stands for itself
+abbrev pub unescaped : List ℕ → List ℕ
+unescaped [] = []
+unescaped (a ∷ []) = a ∷ []
+unescaped (a ∷ b ∷ []) = a ∷ b ∷ []
+unescaped (a ∷ b ∷ c ∷ rest) = byte_before (escape_of a b c) a (unescaped rest) (unescaped (b ∷ c ∷ rest))
+
+-- the path that a word stands for
 unfoldable pub path_in : List ℕ → Option (List (List ℕ))
-path_in word = if list_any (λ b. b == 37) word then None else of_one_part (path_of word)
+path_in word = result_ok (path_of (unescaped word))
+
+-- PATH
+abbrev pub a_path : List ℕ → Result (List (List ℕ)) LineError
+a_path word = or_wrong kind.Path (path_in word)

@@ -4,17 +4,20 @@ ghost use Rattle.vb_script.specs.declared.error.LineError.TheVariants.{Wrong, Me
 
 use std::alloc::AllocError;
 
-/// Why a script isn't read.
+/// Why a script isn't read. Lines are counted from 1, skipped ones too.
 #[derive(Clone, Copy, Debug, PartialEq, Eq)]
 pub enum ScriptError {
-    /// This line, counted from 1, isn't of the form that is read so far, or it has byte 16,777,217.
+    /// The line of byte 16,777,217 where that is there, and else the first line that is wrong.
+    Wrong { line: u64, kind: LineKind },
+    /// The first line that isn't read is a valid `schedule` line. What follows it isn't judged.
     NotYet { line: u64 },
     Memory,
 }
 
-/// What is wrong with a line: the first of these that applies, where `Number`, `Hex` and `Path` are one.
+/// What is wrong with a line: the first of these that applies. `Number`, `Hex` and `Path` are one place in this order,
+/// and the first wrong word from the left decides among them. `Long` comes before all others.
 #[derive(Clone, Copy, Debug, PartialEq, Eq)]
-pub(crate) enum LineKind {
+pub enum LineKind {
     /// The first word names no command.
     Unknown,
     /// The command has no place here.
@@ -29,12 +32,17 @@ pub(crate) enum LineKind {
     Path,
     /// A number or a count of bytes is out of its range.
     Range,
+    /// A writer has this number already.
+    Twice,
+    /// The script has more than 16,777,216 bytes.
+    Long,
 }
 
 /// Why a line isn't read.
 #[derive(Clone, Copy, Debug, PartialEq, Eq)]
 pub(crate) enum LineError {
     Wrong { kind: LineKind },
+    NotYet,
     Memory,
 }
 

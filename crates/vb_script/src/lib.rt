@@ -1,16 +1,24 @@
-// Scripts of writers: text in, lines of operations and freezes out.
+// Scripts: text in, a disk's size and the lines of several writers out.
 #![tactic(auto)]
 
+mod bytes;
 mod command;
+mod draft;
 mod error;
+mod escape;
+mod head;
 mod line;
+mod number;
+mod path;
+mod read;
 mod script;
 mod split;
-mod value;
+mod step;
 mod words;
 
-pub use error::ScriptError;
-pub use script::read_script;
+pub use error::{LineKind, ScriptError};
+pub use read::read_script;
+pub use script::{DiskSize, Form, Script};
 
 #[cfg(test)]
 mod tests;

@@ -1,9 +1,8 @@
 // The words of a line.
 ghost use Rattle.std.specs.Prelude.{◌≡◌, ◌∷◌, MatchResult, Ok, Err};
-ghost use Rattle.vb_script.specs.Words.{words_of};
-ghost use Rattle.vb_script.specs.Lines.{next_word, no_word, one_word, three_words};
+ghost use Rattle.vb_script.specs.Words.{words_of, next_word, no_word, one_word, two_words, three_words};
 
-use crate::error::LineKind;
+use crate::error::{LineError, LineKind};
 use crate::split::split_once;
 use std::marker::Model;
 
@@ -35,13 +34,13 @@ impl<'a> Words<'a> {
     }
 
     /// Takes the next word, which is there and isn't empty.
-    pub(crate) fn take(&mut self) -> Result<&'a [u8], LineKind>
+    pub(crate) fn take(&mut self) -> Result<&'a [u8], LineError>
         ensures { MatchResult result
             (λ word. next_word self.old ≡ Ok (word.now, self.new))
-            (λ kind. next_word self.old ≡ Err kind) }
+            (λ error. next_word self.old ≡ Err error) }
     {
         let Some(text) = self.rest else {
-            return Err(LineKind::Words);
+            return Err(LineKind::Words.into());
         };
         let word = match split_once(text, b' ') {
             None => {
@@ -54,40 +53,53 @@ impl<'a> Words<'a> {
             }
         };
         if word.is_empty() {
-            return Err(LineKind::Words);
+            return Err(LineKind::Words.into());
         }
         Ok(word)
     }
 
     /// No word is left.
     #[tactic(auto, using(crate::proofs::Pieces::some_words))]
-    pub(crate) fn end(&self) -> Result<(), LineKind>
+    pub(crate) fn end(&self) -> Result<(), LineError>
         ensures { result ≡ no_word self.now }
     {
         match self.rest {
             None => Ok(()),
-            Some(_) => Err(LineKind::Words),
+            Some(_) => Err(LineKind::Words.into()),
         }
     }
 
     /// Exactly one word.
-    #[tactic(auto, unfolding(crate::specs::Lines::one_word))]
-    pub(crate) fn one(mut self) -> Result<&'a [u8], LineKind>
+    #[tactic(auto, unfolding(crate::specs::Words::one_word))]
+    pub(crate) fn one(mut self) -> Result<&'a [u8], LineError>
         ensures { MatchResult result
             (λ word. one_word self.entry ≡ Ok word.now)
-            (λ kind. one_word self.entry ≡ Err kind) }
+            (λ error. one_word self.entry ≡ Err error) }
     {
         let word = self.take()?;
         self.end()?;
         Ok(word)
     }
 
+    /// Exactly two words.
+    #[tactic(auto, unfolding(crate::specs::Words::two_words))]
+    pub(crate) fn two(mut self) -> Result<(&'a [u8], &'a [u8]), LineError>
+        ensures { MatchResult result
+            (λ words. two_words self.entry ≡ Ok (words.0.now, words.1.now))
+            (λ error. two_words self.entry ≡ Err error) }
+    {
+        let first = self.take()?;
+        let second = self.take()?;
+        self.end()?;
+        Ok((first, second))
+    }
+
     /// Exactly three words.
-    #[tactic(auto, unfolding(crate::specs::Lines::three_words))]
-    pub(crate) fn three(mut self) -> Result<(&'a [u8], &'a [u8], &'a [u8]), LineKind>
+    #[tactic(auto, unfolding(crate::specs::Words::three_words))]
+    pub(crate) fn three(mut self) -> Result<(&'a [u8], &'a [u8], &'a [u8]), LineError>
         ensures { MatchResult result
             (λ words. three_words self.entry ≡ Ok (words.0.now, words.1.now, words.2.now))
-            (λ kind. three_words self.entry ≡ Err kind) }
+            (λ error. three_words self.entry ≡ Err error) }
     {
         let first = self.take()?;
         let second = self.take()?;
