@@ -1,5 +1,5 @@
 // Where a path leads once the source stands at the target.
-ghost use Rattle.std.specs.Prelude.{◌≡◌, ◌&&◌, true, false, IfOk};
+ghost use Rattle.std.specs.Prelude.{◌≡◌, ◌++◌, ◌&&◌, true, false, IfOk};
 ghost use Rattle.vb_tree.specs.Trees.{is_root};
 ghost use Rattle.vb_tree.specs.Renames.{is_within, is_deep, moved_path, path_after};
 
@@ -33,6 +33,15 @@ pub(crate) fn is_too_deep(path: &Path, source: &Path, target: &Path) -> bool
     bytes > MOST_BYTES || parts > MOST_PARTS
 }
 
+/// Two lists of bytes, one behind the other.
+fn joined(alloc: Global, front: &[u8], back: &[u8]) -> Result<Bytes, AllocError>
+    ensures { IfOk result (λ bytes. bytes ≡ front.now ++ back.now) }
+{
+    let mut bytes = Bytes::of(alloc, front)?;
+    bytes.extend(back)?;
+    Ok(bytes)
+}
+
 /// The path to which a path at or below the source leads.
 #[tactic(auto, using(crate::proofs::MovedPaths::within_texts))]
 fn moved(alloc: Global, path: &Path, source: &Path, target: &Path) -> Result<Path, AllocError>
@@ -43,8 +52,7 @@ fn moved(alloc: Global, path: &Path, source: &Path, target: &Path) -> Result<Pat
 {
     let start = source.text().len();
     let old = path.text();
-    let mut text = Bytes::of(alloc, target.text())?;
-    text.extend(&old[start..])?;
+    let text = joined(alloc, target.text(), &old[start..])?;
     match Path::parse(alloc, text.slice()) {
         Ok(path) => Ok(path),
         Err(_) => Err(AllocError),
