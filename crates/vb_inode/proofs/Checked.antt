@@ -9,7 +9,8 @@ use Rattle.vb_path.specs.Parts.{is_part}
 use Rattle.vb_path.proofs.PartBounds.{length-part}
 use Rattle.vb_inode.specs.declared.node.NodeKind.{NodeKind}
 use Rattle.vb_inode.specs.declared.node.NodeKind.TheVariants.{Free, Folder, File}
-use Rattle.vb_inode.specs.Nodes.{is_free, map_pages_of, may_be_named, may_have_length}
+use Rattle.vb_inode.specs.Nodes.{is_free, may_be_named, may_have_length}
+use Rattle.vb_tree.specs.Trees.{map_pages_of}
 use Rattle.vb_inode.specs.Layout.{Fields, kind_number}
 use Rattle.vb_inode.specs.Checks.{checked, checked_as, is_zero_elsewhere, kind_of, name_in, refuse}
 

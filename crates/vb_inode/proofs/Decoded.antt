@@ -12,7 +12,8 @@ use Rattle.vb_inode.specs.declared.node.Node.{Node}
 use Rattle.vb_inode.specs.declared.node.NodeKind.{NodeKind}
 use Rattle.vb_inode.specs.declared.errors.NodeError.{NodeError}
 use Rattle.vb_inode.specs.declared.errors.NodeError.TheVariants.{Wrong, Memory}
-use Rattle.vb_inode.specs.Nodes.{map_pages_of, may_be_named, may_have_parent}
+use Rattle.vb_inode.specs.Nodes.{may_be_named, may_have_parent}
+use Rattle.vb_tree.specs.Trees.{map_pages_of}
 use Rattle.vb_inode.specs.Layout.{Fields, FitsBlock, AreRefs, fields_from, kind_number, node_page, padded, ref_bytes, sealed_bytes}
 use Rattle.vb_inode.specs.Checks.{are_zeros, checked, is_zero_elsewhere, kind_of, name_in}
 use Rattle.vb_inode.specs.Reading.{Answers, AnswersBy, Holds, IsDueTo, IsMadeOf, IsNodeOf, IsReadAs}

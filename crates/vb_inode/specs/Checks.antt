@@ -5,7 +5,8 @@ use Rattle.vb_block.specs.declared.why.Why.{Why}
 use Rattle.vb_block.specs.declared.why.Why.TheVariants.{Kind, Name, Parent, Length, Maps, Rest}
 use Rattle.vb_inode.specs.declared.node.NodeKind.{NodeKind}
 use Rattle.vb_inode.specs.declared.node.NodeKind.TheVariants.{Free, Folder, File}
-use Rattle.vb_inode.specs.Nodes.{map_pages_of, may_be_named, may_have_length, may_have_parent}
+use Rattle.vb_inode.specs.Nodes.{may_be_named, may_have_length, may_have_parent}
+use Rattle.vb_tree.specs.Trees.{map_pages_of}
 use Rattle.vb_inode.specs.Layout.{Fields}
 
 -- whether each byte is zero

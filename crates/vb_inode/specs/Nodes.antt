@@ -1,17 +1,11 @@
 -- Nodes: which names, parents and lengths they may have, and how many map pages a file takes.
 use Rattle.std.specs.Prelude.{◌≡◌, ℕ, ◌+◌, ◌/◌, Bool, true, false, ◌||◌, ◌==◌, nat_le, if◌then◌else◌, IsTrue, List, length}
 use Rattle.vb_path.specs.Parts.{is_part}
+use Rattle.vb_tree.specs.Trees.{map_pages_of}
+use Rattle.vb_tree.specs.Refusals.{longest_file}
 use Rattle.vb_inode.specs.declared.node.Node.{Node}
 use Rattle.vb_inode.specs.declared.node.NodeKind.{NodeKind}
 use Rattle.vb_inode.specs.declared.node.NodeKind.TheVariants.{Free, Folder, File}
-
--- how many pages of 4,096 bytes a length takes
-abbrev pub data_pages_of : ℕ → ℕ
-data_pages_of len = (len + 4095) / 4096
-
--- how many map pages a length takes: one for each 113 pages
-abbrev pub map_pages_of : ℕ → ℕ
-map_pages_of len = (data_pages_of len + 112) / 113
 
 abbrev pub is_free : NodeKind → Bool
 is_free Free = true
@@ -34,7 +28,7 @@ may_have_parent File parent = true
 abbrev pub may_have_length : NodeKind → ℕ → Bool
 may_have_length Free len = len == 0
 may_have_length Folder len = len == 0
-may_have_length File len = nat_le len 44433408
+may_have_length File len = nat_le len longest_file
 
 -- the fields of a node are in range
 pub record IsInRange (node : Node) : Type 0 where

@@ -1,6 +1,7 @@
 // The checks that a node block's fields have to pass, in their order.
 ghost use Rattle.std.specs.Prelude.{◌≡◌, ◌<◌, ◌^◌, ◌==◌};
-ghost use Rattle.vb_inode.specs.Nodes.{map_pages_of, may_be_named, may_have_length, may_have_parent};
+ghost use Rattle.vb_tree.specs.Trees.{map_pages_of};
+ghost use Rattle.vb_inode.specs.Nodes.{may_be_named, may_have_length, may_have_parent};
 ghost use Rattle.vb_inode.specs.Checks.{checked, checked_as, is_zero_elsewhere, kind_of};
 ghost use Rattle.vb_inode.specs.Views.{fields_of};
 
@@ -9,9 +10,7 @@ use crate::bytes::{are_zeros, split_within};
 use crate::fields::NodeFields;
 use vb_block::Why;
 use vb_path::is_part;
-
-/// The most bytes that a file may have: 96 map pages of 113 pages of 4,096 bytes.
-const LONGEST_FILE: u64 = 44_433_408;
+use vb_tree::{LONGEST_FILE, map_pages_of};
 
 /// The kind that a number stands for.
 fn kind_of(number: u32) -> Option<NodeKind>
@@ -57,18 +56,8 @@ fn may_have_length(kind: NodeKind, length: u64) -> bool
     }
 }
 
-/// How many map pages a length takes.
-fn map_pages_of(length: u64) -> u64
-    requires { length < 2 ^ 63 }
-    ensures { result ≡ map_pages_of length }
-{
-    let pages = (length + 4095) / 4096;
-    (pages + 112) / 113
-}
-
 /// Whether a length takes so many map pages.
 fn takes_maps(length: u64, count: u32) -> bool
-    requires { length < 2 ^ 63 }
     ensures { result ≡ (count == map_pages_of length) }
 {
     u64::from(count) == map_pages_of(length)

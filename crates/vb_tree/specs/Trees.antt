@@ -87,9 +87,13 @@ with_bytes_at path bytes (e ∷ es) = if same_path path e.path then record e { b
 abbrev pub data_pages_of : ℕ → ℕ
 data_pages_of len = (len + 4095) / 4096
 
--- how many pages a file of this length takes: its data pages, and a map page for each 113 of them
+-- how many map pages a length takes: one for each 113 of its pages
+abbrev pub map_pages_of : ℕ → ℕ
+map_pages_of len = (data_pages_of len + 112) / 113
+
+-- how many pages a file of this length takes: its data pages and its map pages
 abbrev pub pages_of_length : ℕ → ℕ
-pages_of_length len = data_pages_of len + (data_pages_of len + 112) / 113
+pages_of_length len = data_pages_of len + map_pages_of len
 
 -- how many pages all files take
 abbrev pub page_count : List TreeEntry → ℕ

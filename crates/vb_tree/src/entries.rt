@@ -4,8 +4,9 @@ ghost use Rattle.std.specs.List.{position_or_len};
 ghost use Rattle.std.specs.Option.{option_copied};
 ghost use Rattle.std.specs.Ordering.{is_lt};
 ghost use Rattle.vb_path.specs.Paths.{same_path, path_cmp};
-ghost use Rattle.vb_tree.specs.Trees.{entry_at, kind_at, length_at, insert_entry, without, pages_of_length, page_count};
+ghost use Rattle.vb_tree.specs.Trees.{entry_at, kind_at, length_at, insert_entry, without, page_count};
 
+use crate::lengths::pages_of;
 use crate::{Bytes, Kind, Path, TreeEntry};
 use std::alloc::AllocError;
 
@@ -86,14 +87,6 @@ pub(crate) fn remove(entries: &mut Vec<TreeEntry>, path: &[Bytes])
     ensures { entries.new.items ≡ without path.now entries.old.items }
 {
     entries.retain(|entry| stays(entry, path));
-}
-
-/// How many pages a file of this length takes, its map pages among them.
-pub(crate) fn pages_of(length: u64) -> u64
-    ensures { result ≡ pages_of_length length }
-{
-    let data_pages = length.div_ceil(4096);
-    data_pages + data_pages.div_ceil(113)
 }
 
 /// How many pages all entries take.

@@ -7,6 +7,7 @@ mod contents;
 mod entries;
 mod folders;
 mod laws;
+mod lengths;
 mod looks;
 mod moves;
 mod operation;
@@ -18,6 +19,7 @@ mod room;
 mod tree;
 
 pub use laws::{names_are_in_order, operations_keep_trees};
+pub use lengths::{LONGEST_FILE, map_pages_of, pages_of};
 pub use operation::Op;
 pub use plain::Plain;
 pub use reply::{Refusal, Reply};

@@ -8,10 +8,9 @@ ghost use Rattle.vb_tree.specs.Contents.{new_length};
 ghost use Rattle.vb_tree.specs.Refusals.{refuse_length, refuse_resize, refusal_of};
 
 use crate::checks::find_file;
-use crate::entries::{pages_in, pages_of};
+use crate::entries::pages_in;
+use crate::lengths::{LONGEST_FILE, pages_of};
 use crate::{Bytes, Limits, Refusal, TreeEntry};
-
-const LONGEST_FILE: u64 = 44_433_408;
 
 /// A file's length after a write.
 fn length_after(offset: u64, written: &[u8], old: u64) -> u64
