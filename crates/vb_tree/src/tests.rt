@@ -173,34 +173,46 @@ fn bytes_are_written_cut_and_read(rt: HostRuntime) -> Result<(), Fail> {
     Ok(())
 }
 
+fn names(alloc: Global, texts: &[&[u8]]) -> Result<Names, Fail> {
+    let mut names = Names::new(alloc);
+    for text in texts {
+        names.add(Bytes::of(alloc, text)?)?;
+    }
+    Ok(names)
+}
+
+fn list(plain: &mut Plain, alloc: Global, text: &[u8]) -> Result<Reply, Fail> {
+    let path = path(alloc, text)?;
+    play(plain, alloc, Op::List { path })
+}
+
+fn stat(plain: &mut Plain, alloc: Global, text: &[u8]) -> Result<Reply, Fail> {
+    let path = path(alloc, text)?;
+    play(plain, alloc, Op::Stat { path })
+}
+
 #[test]
 fn names_are_listed_in_byte_order(rt: HostRuntime) -> Result<(), Fail> {
     let alloc = rt.alloc();
     let mut plain = Plain::new(alloc, TWO_PAGES);
-    assert_eq!(rt; make_dir(&mut plain, alloc, b"/d")?, Reply::Done);
-    let texts: [&[u8]; 4] = [b"/d/b", b"/d/a!", b"/e", b"/d/a"];
+    let texts: [&[u8]; 4] = [b"/b", b"/a!", b"/e", b"/a"];
     for text in texts {
         assert_eq!(rt; create(&mut plain, alloc, text)?, Reply::Done);
     }
-    let op = Op::List {
-        path: path(alloc, b"/d")?,
-    };
-    let mut names = Names::new(alloc);
-    for name in [b"a".as_slice(), b"a!".as_slice(), b"b".as_slice()] {
-        names.add(Bytes::of(alloc, name)?)?;
-    }
-    assert_eq!(rt;
-        plain.perform(alloc, &op)?.copy(alloc)?,
-        Reply::Names(names)
-    );
-    let op = Op::Stat {
-        path: path(alloc, b"/")?,
-    };
-    let info = Reply::Info {
+    let due = names(alloc, &[b"a", b"a!", b"b", b"e"])?;
+    assert_eq!(rt; list(&mut plain, alloc, b"/")?, Reply::Names(due));
+    Ok(())
+}
+
+#[test]
+fn the_root_is_a_folder(rt: HostRuntime) -> Result<(), Fail> {
+    let alloc = rt.alloc();
+    let mut plain = Plain::new(alloc, TWO_PAGES);
+    let due = Reply::Info {
         kind: Kind::Folder,
         length: 0,
     };
-    assert_eq!(rt; play(&mut plain, alloc, op)?, info);
+    assert_eq!(rt; stat(&mut plain, alloc, b"/")?, due);
     Ok(())
 }
 
