@@ -34,10 +34,11 @@ spelled f =
     in_order f.signature (little_bytes 4 f.version) f.id (little_bytes 4 f.blocks) (little_bytes 4 f.nodes)
     (little_bytes 8 f.sequence) (little_bytes 8 f.epoch) (little_bytes 4 f.state) (little_bytes 4 f.count) f.rest
 
--- the numbers of 4 and of 8 bytes from a place on
+-- the number of 4 bytes from a place on
 abbrev pub number4_at : ℕ → List ℕ → ℕ
 number4_at at page = little_number 4 (drop at page)
 
+-- the number of 8 bytes from a place on
 abbrev pub number8_at : ℕ → List ℕ → ℕ
 number8_at at page = little_number 8 (drop at page)
 

@@ -7,6 +7,7 @@ use Rattle.vb_inode.specs.declared.node.Node.{Node}
 use Rattle.vb_inode.specs.declared.node.NodeKind.{NodeKind}
 use Rattle.vb_inode.specs.declared.node.NodeKind.TheVariants.{Free, Folder, File}
 
+-- whether a node stands for nothing
 abbrev pub is_free : NodeKind → Bool
 is_free Free = true
 is_free Folder = false

@@ -46,6 +46,7 @@ abbrev pub AnswersBy : Fields → Result NodeKind Why → Result Node NodeError 
 AnswersBy f (Err why) result = result ≡ Err (Wrong why)
 AnswersBy f (Ok kind) result = MatchResult result (λ node. IsMadeOf kind f node) (λ e. e ≡ Memory)
 
+-- the answer to these fields in a store of so many nodes
 abbrev pub Answers : ℕ → Fields → Result Node NodeError → Type 0
 Answers nodes f result = AnswersBy f (checked nodes f) result
 

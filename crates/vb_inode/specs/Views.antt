@@ -2,6 +2,7 @@
 use Rattle.vb_inode.specs.Layout.{Fields}
 use Rattle.vb_inode.specs.declared.fields.NodeFields.{NodeFields}
 
+-- the fields, each as the number or the bytes that it is
 abbrev pub fields_of : NodeFields → Fields
 fields_of f = record {
   slot = f.slot;

@@ -10,10 +10,11 @@ use Rattle.vb_journal.specs.Plans.{calls_from}
 abbrev pub images_of : Commit → List (List ℕ)
 images_of c = c.images
 
--- the head before it, and its epoch
+-- the head before it
 abbrev pub head_of : Commit → Head
 head_of c = c.head
 
+-- its epoch
 abbrev pub epoch_of : Commit → ℕ
 epoch_of c = c.epoch
 

@@ -22,10 +22,11 @@ pub record CanCommit (head : Head) (epoch : ℕ) (images : List (List ℕ)) : Ty
   pub count : length images ≤ head.nodes
   pub images_are : AreImages head.nodes images
 
--- the head that counts the journal in, and the one that counts it out
+-- the head that counts the journal in
 abbrev pub opened_head : Head → ℕ → List (List ℕ) → Head
 opened_head head epoch images = record head { sequence = head.sequence + 1; epoch = epoch; state = Opened (length images) }
 
+-- the head that counts it out
 abbrev pub closed_head : Head → ℕ → Head
 closed_head head epoch = record head { sequence = head.sequence + 2; epoch = epoch; state = Closed }
 
@@ -82,6 +83,7 @@ position_of (Homes next) = next
 position_of (Closing turn) = 0
 position_of Rested = 0
 
+-- whether the commit is at its end
 abbrev pub is_rested : Stage → Bool
 is_rested (Journal next) = false
 is_rested (Opening turn) = false
@@ -102,13 +104,14 @@ answer_to count [] = Idle
 answer_to count (call ∷ calls) =
     if length calls == 0 then RestedNow else (if length calls == count + 5 then Committed else kind_of call)
 
--- the same at each stage
+-- the answer to a call of two heads, of which the last has this answer
 abbrev pub turn_answer : CommitStep → Turn → CommitStep
 turn_answer last First = Wrote
 turn_answer last FirstSync = Synced
 turn_answer last Second = Wrote
 turn_answer last SecondSync = last
 
+-- the answer at each stage
 abbrev pub answer_at : ℕ → Stage → CommitStep
 answer_at count (Journal next) = if nat_lt next count then Wrote else Synced
 answer_at count (Opening turn) = turn_answer Committed turn

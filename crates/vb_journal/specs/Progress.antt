@@ -30,20 +30,21 @@ Has (Fixed page) cell = cell ≡ record { first = page; later = []; hurt = None 
 Has (Trying old new) cell = (times : ℕ) × (cell ≡ tried_cell old new times)
 Has (Tried old new) cell = (times : ℕ) × (cell ≡ tried_cell old new (suc times))
 
--- the first copy of a head in a turn from the old to the new one, and the second one
+-- the first copy of a head in a turn from the old to the new one
 abbrev pub first_in : List ℕ → List ℕ → Turn → Progress
 first_in old new First = Trying old new
 first_in old new FirstSync = Tried old new
 first_in old new Second = Fixed new
 first_in old new SecondSync = Fixed new
 
+-- the second copy
 abbrev pub second_in : List ℕ → List ℕ → Turn → Progress
 second_in old new First = Fixed old
 second_in old new FirstSync = Fixed old
 second_in old new Second = Trying old new
 second_in old new SecondSync = Tried old new
 
--- the three heads of a commit: before it, opened and closed
+-- the first copy at each stage, where these are the heads before the commit, opened and closed
 abbrev pub first_at : List ℕ → List ℕ → List ℕ → Stage → Progress
 first_at before opened closed (Journal next) = Fixed before
 first_at before opened closed (Opening turn) = first_in before opened turn
@@ -51,6 +52,7 @@ first_at before opened closed (Homes next) = Fixed opened
 first_at before opened closed (Closing turn) = first_in opened closed turn
 first_at before opened closed Rested = Fixed closed
 
+-- the second copy at each stage
 abbrev pub second_at : List ℕ → List ℕ → List ℕ → Stage → Progress
 second_at before opened closed (Journal next) = Fixed before
 second_at before opened closed (Opening turn) = second_in before opened turn

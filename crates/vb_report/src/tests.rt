@@ -101,7 +101,13 @@ fn replies_are_printed_behind_their_operations(rt: HostRuntime) -> Result<(), Fa
     names.add(Bytes::of(alloc, b"a b")?)?;
     names.add(Bytes::of(alloc, b"c")?)?;
     let list = Op::List { path: path(b"/")? };
-    expect_call(&rt, list, Reply::Names(names), "w3 ls / 2 a%20b c\n")?;
+    expect_call(&rt, list, Reply::Names(names), "w3 ls / 2 a%20b c\n")
+}
+
+#[test]
+fn kinds_and_lengths_are_printed(rt: HostRuntime) -> Result<(), Fail> {
+    let alloc = rt.alloc();
+    let path = |text: &[u8]| Path::parse(alloc, text);
     let info = Reply::Info {
         kind: Kind::Folder,
         length: 0,

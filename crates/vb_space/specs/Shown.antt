@@ -4,6 +4,7 @@ use Rattle.vb_space.specs.declared.space.Space.TheInside.{Inside}
 use Rattle.vb_space.specs.Free.{free_from}
 use Rattle.vb_space.specs.Spaces.{DataPlaces}
 
+-- what contracts see of a space
 abbrev pub shown : Inside → DataPlaces
 shown a = record { first = a.first; users = a.users.items }
 

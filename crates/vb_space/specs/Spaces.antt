@@ -37,13 +37,15 @@ pub record IsLeastFree (s : DataPlaces) (place : ℕ) : Type 0 where
   pub free : IsFree s place
   pub least : (other : ℕ) → IsFree s other → place ≤ other
 
--- how many places the committed view uses, the next one, and neither
+-- how many places the committed view uses
 abbrev pub committed_count : DataPlaces → ℕ
 committed_count s = count_by has_committed s.users
 
+-- how many places the next view uses
 abbrev pub next_count : DataPlaces → ℕ
 next_count s = count_by has_next s.users
 
+-- how many places neither uses
 abbrev pub free_count : DataPlaces → ℕ
 free_count s = count_by is_neither s.users
 

@@ -6,8 +6,8 @@ ghost use Rattle.vb_space.specs.Spaces.{IsCommitted};
 
 use crate::users::Users;
 
-// Makes the next view the committed one, and lists the free places, upwards, at the front of `free`:
-// the result says how many there are.
+/// Makes the next view the committed one, and lists the free places, upwards, at the front of `free`:
+/// the result says how many there are.
 pub fn settle(first: u32, users: &mut [Users], free: &mut [u32]) -> usize
     requires room { length free.old ≡ length users.old }
     requires places { first + length users.old < 2 ^ 32 }
@@ -27,7 +27,7 @@ pub fn settle(first: u32, users: &mut [Users], free: &mut [u32]) -> usize
     count
 }
 
-// Gives the committed view these places of an empty space, and lists the free ones as `settle` does.
+/// Gives the committed view these places of an empty space, and lists the free ones as `settle` does.
 pub fn settle_used(first: u32, users: &mut [Users], free: &mut [u32], used: &[u32]) -> usize
     requires room { length free.old ≡ length users.old }
     requires places { first + length users.old < 2 ^ 32 }
@@ -45,7 +45,7 @@ pub fn settle_used(first: u32, users: &mut [Users], free: &mut [u32], used: &[u3
     settle(first, users, free)
 }
 
-// Lets the next view use these places of an empty space.
+/// Lets the next view use these places of an empty space.
 fn mark_next(first: u32, users: &mut [Users], used: &[u32])
     requires fresh { (k : ℕ) → slice_index_or users.old k Users.Neither ≡ Users.Neither }
     requires within { All (λ place. first ≤ place) used.now }
