@@ -1,5 +1,6 @@
 -- Nodes by slot: what a slot holds, which slot is the child of which, and how much the nodes take.
-use Rattle.std.specs.Prelude.{◌≡◌, ℕ, ◌<◌, ◌≤◌, Bool, true, false, not, ◌&&◌, ◌==◌, if◌then◌else◌, List, length, get_or, Option, Some, None}
+use Rattle.std.specs.Prelude.{◌≡◌, ℕ, ◌<◌, ◌≤◌, Bool, true, false, not, ◌&&◌, ◌==◌, if◌then◌else◌, List, [], ◌∷◌, length, get_or, Option, Some, None}
+use Rattle.std.specs.Option.{option_and_then}
 use Rattle.std.specs.List.{position, sum_by}
 use Rattle.std.specs.Ordering.{is_eq, nat_cmp}
 use Rattle.std.specs.Cmp.Lexicographic.{slice_cmp}
@@ -49,6 +50,15 @@ is_child parent name (Some held) = not (held.node.slot == 0) && (held.node.paren
 -- the slot of the entry of this name in the folder of this slot
 unfoldable pub child_of : List (Option Held) → ℕ → List ℕ → Option ℕ
 child_of nodes parent name = position (is_child parent name) nodes
+
+-- the slot to which parts lead from a slot, by the slots of children
+abbrev pub slot_below : (ℕ → List ℕ → Option ℕ) → ℕ → List (List ℕ) → Option ℕ
+slot_below child from [] = Some from
+slot_below child from (part ∷ parts) = option_and_then (λ slot. slot_below child slot parts) (child from part)
+
+-- the slot of the node at a path; the root's is 0
+abbrev pub slot_at : List (Option Held) → List (List ℕ) → Option ℕ
+slot_at nodes path = slot_below (child_of nodes) 0 path
 
 -- one for a node, and none for a free slot
 abbrev pub nodes_of_slot : Option Held → ℕ

@@ -1,11 +1,15 @@
 // The nodes of a tree in memory: found by path, by folder and name, and by slot.
 #![tactic(auto)]
 
+mod children;
+mod errors;
 mod held;
 mod table;
+mod walk;
 
+pub use errors::IndexError;
 pub use held::Held;
 pub use vb_block::{Digest, Ref};
-pub use vb_inode::{Node, Refs};
+pub use vb_inode::{Node, NodeKind, Refs};
 pub use vb_path::{Bytes, Path};
 pub use vb_tree::{Kind, Limits, Refusal};

@@ -1,17 +1,22 @@
 // The table of nodes: by slot, and by folder and name.
-ghost use Rattle.std.specs.Prelude.{◌≡◌, ◌<◌, length, Some};
-ghost use Rattle.std.specs.Option.{option_copied};
-ghost use Rattle.vb_index.specs.Nodes.{held_at, child_of, nodes_in, pages_in, IsTable};
+ghost use Rattle.std.specs.Prelude.{◌≡◌, ◌+◌, ◌/◌, ◌<◌, ◌≤◌, true, length, Some, None, IsSome, List, ℕ, OnOk, OnErr, slice_set};
+ghost use Rattle.std.specs.Option.{option_copied, option_and_then};
+ghost use Rattle.vb_index.specs.Nodes.{held_at, holds_folder, child_of, nodes_in, pages_in, IsHeld, IsTable};
+ghost use Rattle.vb_index.specs.Indexes.{IsLeastFree};
+ghost use Rattle.vb_tree.specs.Trees.{pages_of_length};
+ghost use Rattle.vb_tree.specs.Operations.{longest_file};
 
+use crate::children::{Entries, add_child, drop_child};
 use crate::{Bytes, Held};
-use std::collections::{BTreeMap, BTreeSet};
+use std::alloc::{AllocError, Global};
+use std::collections::BTreeSet;
 use std::marker::Model;
 
 /// Nodes by slot. Contracts see the list of what each slot holds.
 #[derive(Drop)]
 pub(crate) struct Table {
     nodes: Vec<Option<Held>>,
-    children: Vec<BTreeMap<Bytes, u32>>,
+    children: Vec<Entries>,
     free: BTreeSet<u32>,
     count: u32,
     pages: u64,
@@ -54,6 +59,24 @@ impl Table {
         self.children[parent as usize].get(name).copied()
     }
 
+    /// What stands at a name in a folder.
+    pub fn entry(&self, folder: u32, name: &Bytes) -> Option<&Held>
+        requires { holds_folder (held_at self.now folder) ≡ true }
+        ensures held { option_copied result ≡ option_and_then (held_at self.now) (child_of self.now folder name.now) }
+        ensures table { IsTable self.now }
+    {
+        let slot = self.child(folder, name)?;
+        self.held(slot)
+    }
+
+    /// The least slot that is free.
+    pub fn least_free(&self) -> u32
+        requires { nodes_in self.now < length self.now }
+        ensures { IsLeastFree self.now result }
+    {
+        *self.free.first().unwrap()
+    }
+
     /// What a slot holds.
     pub fn held(&self, slot: u32) -> Option<&Held>
         ensures { option_copied result ≡ held_at self.now slot }
@@ -63,4 +86,53 @@ impl Table {
             _ => None,
         }
     }
+
+    /// Puts a node at its own slot.
+    pub fn put(&mut self, alloc: Global, held: Held) -> Result<(), AllocError>
+        requires above_root { 0 < held.node.slot }
+        requires in_table { held.node.slot < length self.old }
+        requires free { held_at self.old held.node.slot ≡ None }
+        requires in_folder { holds_folder (held_at self.old held.node.parent) ≡ true }
+        requires new_name { child_of self.old held.node.parent held.node.name ≡ None }
+        requires fits { IsHeld held.node.slot held }
+        ensures ok { OnOk result (self.new ≡ slice_set self.old held.node.slot (Some held)) }
+        ensures err { OnErr result (self.new ≡ self.old) }
+    {
+        let slot = held.node.slot;
+        let name = Bytes::of(alloc, held.node.name.slice())?;
+        add_child(&mut self.children, held.node.parent, name, slot)?;
+        self.free.remove(&slot);
+        self.count += 1;
+        self.pages += pages_of(held.node.length);
+        self.nodes[slot as usize] = Some(held);
+        Ok(())
+    }
+
+    /// Empties the slot of an entry, a folder only where it has no entries.
+    pub fn take(&mut self, slot: u32) -> Result<(), AllocError>
+        requires above_root { 0 < slot }
+        requires there { IsSome (held_at self.old slot) }
+        requires bare { (name : List ℕ) → child_of self.old slot name ≡ None }
+        ensures ok { OnOk result (self.new ≡ slice_set self.old slot None) }
+        ensures err { OnErr result (self.new ≡ self.old) }
+    {
+        self.free.insert(slot)?;
+        if let Some(held) = &self.nodes[slot as usize] {
+            drop_child(&mut self.children, held.node.parent, &held.node.name);
+            self.count -= 1;
+            self.pages -= pages_of(held.node.length);
+        }
+        self.nodes[slot as usize] = None;
+        Ok(())
+    }
+}
+
+/// How many pages a file of this length takes, its map pages among them.
+fn pages_of(length: u64) -> u64
+    requires { length ≤ longest_file }
+    ensures pages { result ≡ pages_of_length length }
+    ensures few { result ≤ 10945 }
+{
+    let data_pages = length.div_ceil(4096);
+    data_pages + data_pages.div_ceil(113)
 }
