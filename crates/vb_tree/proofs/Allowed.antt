@@ -13,9 +13,12 @@ use Rattle.vb_tree.specs.declared.tree.Limits.{Limits}
 use Rattle.vb_tree.specs.declared.tree.TreeEntry.{TreeEntry}
 use Rattle.vb_tree.specs.declared.operation.Op.{Op}
 use Rattle.vb_tree.specs.declared.operation.Op.TheVariants.{Create, Write}
-use Rattle.vb_tree.specs.declared.operation.Refusal.{Refusal}
+use Rattle.vb_tree.specs.declared.reply.Refusal.{Refusal}
 use Rattle.vb_tree.specs.Trees.{is_root, entry_at, kind_at, bytes_in, insert_entry, with_bytes_at, pages_of_length, page_count, node_count, parent_of, IsTree, IsWithin}
-use Rattle.vb_tree.specs.Operations.{refuse, refuse_step, refuse_rest, refuse_way, refuse_unless_file, refuse_new, refuse_length, longest_file, is_folder, written_over, refusal_of, effect_of, reply_unless, tree_after, tree_after_reply}
+use Rattle.vb_tree.specs.Trees.{is_folder}
+use Rattle.vb_tree.specs.Contents.{written_over}
+use Rattle.vb_tree.specs.Refusals.{refuse, refuse_step, refuse_rest, refuse_way, refuse_unless_file, refuse_new, refuse_length, longest_file, refusal_of}
+use Rattle.vb_tree.specs.Operations.{effect_of, reply_unless, tree_after, tree_after_reply}
 use Rattle.vb_path.specs.Paths.{same_path, path_cmp}
 use Rattle.vb_tree.proofs.Lookups.{insert_entry-place}
 use Rattle.vb_tree.proofs.TreeLaws.{HasFile, IsTree-insert, IsTree-with_bytes_at}

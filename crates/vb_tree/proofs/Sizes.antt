@@ -7,7 +7,8 @@ use Rattle.vb_tree.specs.declared.tree.Limits.{Limits}
 use Rattle.vb_tree.specs.declared.tree.TreeEntry.{TreeEntry}
 use Rattle.vb_path.specs.Paths.{same_path}
 use Rattle.vb_tree.specs.Trees.{entry_at, bytes_in, with_bytes_at, pages_of_length, page_count, pages_after}
-use Rattle.vb_tree.specs.Operations.{written_over, new_length, refuse_length}
+use Rattle.vb_tree.specs.Contents.{written_over, new_length}
+use Rattle.vb_tree.specs.Refusals.{refuse_length}
 use Rattle.vb_tree.proofs.Lookups.{entry_at-place, bytes_in-place}
 
 -- how long a file is after a write

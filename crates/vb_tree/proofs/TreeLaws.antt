@@ -55,6 +55,17 @@ entry_at-insert path new (e ∷ es) h =
       | false ↦ ap (λ t. cond (same_path path e.path) (Some e) t) (entry_at-insert path new es h)
     ]
 
+-- a new entry is found at its path, where nothing stood there
+pub entry_at-inserted : (path : List (List ℕ)) (new : TreeEntry) (tree : List TreeEntry) → same_path path new.path ≡ true → entry_at new.path tree ≡ None → entry_at path (insert_entry new tree) ≡ Some new
+entry_at-inserted path new [] h none = ap (λ v. cond v (Some new) None) h
+entry_at-inserted path new (e ∷ es) h none =
+    let away = not_here new.path e es none in
+    let other : same_path path e.path ≡ false = subst (λ p. same_path p e.path ≡ false) (sym ((same_path-Decides path new.path).0 h)) away.0 in
+    elim (is_lt (path_cmp new.path e.path)) as (λ v. entry_at path (cond v (new ∷ e ∷ es) (e ∷ insert_entry new es)) ≡ Some new) [
+      | true ↦ ap (λ v. cond v (Some new) (entry_at path (e ∷ es))) h
+      | false ↦ ap (λ v. cond v (Some e) (entry_at path (insert_entry new es))) other ∙ entry_at-inserted path new es h away.1
+    ]
+
 -- a new entry where nothing stood changes nothing that stands
 pub kind_at-insert : (path : List (List ℕ)) (new : TreeEntry) (tree : List TreeEntry) (kind : Kind) → entry_at new.path tree ≡ None → is_root new.path ≡ false → kind_at path tree ≡ Some kind → kind_at path (insert_entry new tree) ≡ Some kind
 kind_at-insert path new tree kind none below h =
@@ -69,7 +80,7 @@ kind_at-insert path new tree kind none below h =
 
 -- ---- what belongs into a tree
 
-AllBelongIn-insert : (tree : List TreeEntry) (new : TreeEntry) (es : List TreeEntry) → BelongsIn tree new → AllBelongIn tree es → AllBelongIn tree (insert_entry new es)
+pub AllBelongIn-insert : (tree : List TreeEntry) (new : TreeEntry) (es : List TreeEntry) → BelongsIn tree new → AllBelongIn tree es → AllBelongIn tree (insert_entry new es)
 AllBelongIn-insert tree new [] h all = (h, tt)
 AllBelongIn-insert tree new (e ∷ es) h all =
     elim (is_lt (path_cmp new.path e.path)) as (λ v. AllBelongIn tree (cond v (new ∷ e ∷ es) (e ∷ insert_entry new es))) [

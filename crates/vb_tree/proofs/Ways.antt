@@ -3,9 +3,9 @@ use Rattle.std.proofs.Common.{◌≡◌, ℕ, ◌+◌, ◌<◌, ◌≤◌, List,
 use Rattle.std.proofs.lemmas.List.{drop-drop}
 use Rattle.std.proofs.Math.Seq.{take-add}
 use Rattle.vb_tree.specs.declared.tree.TreeEntry.{TreeEntry}
-use Rattle.vb_tree.specs.declared.operation.Refusal.{Refusal}
+use Rattle.vb_tree.specs.declared.reply.Refusal.{Refusal}
 use Rattle.vb_tree.specs.Trees.{kind_at}
-use Rattle.vb_tree.specs.Operations.{refuse_rest, refuse_step}
+use Rattle.vb_tree.specs.Refusals.{refuse_rest, refuse_step}
 
 rest_step : (tree : List TreeEntry) (folder rest : List (List ℕ)) (next : Option Refusal) → 1 < length rest → refuse_rest tree folder rest next ≡ refuse_step (kind_at (folder ++ take 1 rest) tree) (refuse_rest tree (folder ++ take 1 rest) (drop 1 rest) next)
 rest_step tree folder [] next h = absurd (omega arith)

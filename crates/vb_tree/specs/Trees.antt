@@ -1,11 +1,11 @@
 -- Trees: their entries, what stands where, and how much they take.
-use Rattle.std.specs.Prelude.{◌≡◌, ℕ, ◌+◌, ◌-◌, ◌/◌, ◌≤◌, ◌==◌, Bool, false, if◌then◌else◌, List, [], ◌∷◌, length, take, Option, Some, None}
+use Rattle.std.specs.Prelude.{◌≡◌, ℕ, ◌+◌, ◌-◌, ◌/◌, ◌≤◌, ◌==◌, Bool, true, false, not, ◌&&◌, if◌then◌else◌, List, [], ◌∷◌, length, take, get_or, map, Option, Some, None}
 use Rattle.std.specs.Option.{option_map}
 use Rattle.std.specs.Ordering.{is_lt}
 use Rattle.std.specs.declared.cmp.Ordering.TheVariants.{Less}
-use Rattle.std.specs.List.{find, sum_by}
+use Rattle.std.specs.List.{find, filter, list_any, sum_by}
 use Rattle.vb_tree.specs.declared.tree.Kind.{Kind}
-use Rattle.vb_tree.specs.declared.tree.Kind.TheVariants.{Folder}
+use Rattle.vb_tree.specs.declared.tree.Kind.TheVariants.{Folder, File}
 use Rattle.vb_tree.specs.declared.tree.Limits.{Limits}
 use Rattle.vb_tree.specs.declared.tree.TreeEntry.{TreeEntry}
 use Rattle.vb_path.specs.Paths.{same_path, path_cmp}
@@ -32,6 +32,46 @@ abbrev pub bytes_in : Option TreeEntry → List ℕ
 bytes_in None = []
 bytes_in (Some e) = e.bytes
 
+-- the length of the file at a path, and 0 where there is none
+abbrev pub length_at : List (List ℕ) → List TreeEntry → ℕ
+length_at path tree = length (bytes_in (entry_at path tree))
+
+-- whether it is a folder
+abbrev pub is_folder : Option Kind → Bool
+is_folder None = false
+is_folder (Some Folder) = true
+is_folder (Some File) = false
+
+-- whether it is a file
+abbrev pub is_file : Option Kind → Bool
+is_file None = false
+is_file (Some Folder) = false
+is_file (Some File) = true
+
+-- the path of the folder in which a path lies
+abbrev pub parent_of : List (List ℕ) → List (List ℕ)
+parent_of path = take (length path - 1) path
+
+-- the last part of a path
+abbrev pub name_of : List (List ℕ) → List ℕ
+name_of path = get_or path (length path - 1) []
+
+-- whether a path is that of an entry of a folder
+abbrev pub is_entry_of : List (List ℕ) → List (List ℕ) → Bool
+is_entry_of folder path = not (is_root path) && same_path folder (parent_of path)
+
+-- whether a folder has entries
+abbrev pub has_entries : List (List ℕ) → List TreeEntry → Bool
+has_entries folder tree = list_any (λ e. is_entry_of folder e.path) tree
+
+-- the names of a folder's entries, in path order
+abbrev pub names_in : List (List ℕ) → List TreeEntry → List (List ℕ)
+names_in folder tree = map (λ e. name_of e.path) (filter (λ e. is_entry_of folder e.path) tree)
+
+-- the tree without the entry at a path
+abbrev pub without : List (List ℕ) → List TreeEntry → List TreeEntry
+without path tree = filter (λ e. not (same_path path e.path)) tree
+
 -- the tree with one more entry, before the first that comes after it
 abbrev pub insert_entry : TreeEntry → List TreeEntry → List TreeEntry
 insert_entry new [] = new ∷ []
@@ -54,9 +94,9 @@ pages_of_length len = data_pages_of len + (data_pages_of len + 112) / 113
 abbrev pub page_count : List TreeEntry → ℕ
 page_count tree = sum_by (λ e. pages_of_length (length e.bytes)) tree
 
--- how many pages all files take once one of them has another length
-abbrev pub pages_after : List TreeEntry → TreeEntry → ℕ → ℕ
-pages_after tree changed len = page_count tree - pages_of_length (length changed.bytes) + pages_of_length len
+-- how many pages all files take once the one at a path has another length
+abbrev pub pages_with : List (List ℕ) → ℕ → List TreeEntry → ℕ
+pages_with path len tree = page_count tree - pages_of_length (length_at path tree) + pages_of_length len
 
 -- how many nodes a tree has, the root among them
 abbrev pub node_count : List TreeEntry → ℕ
@@ -84,10 +124,6 @@ AllAfter path (e ∷ es) = (path_cmp path e.path ≡ Less) × AllAfter path es
 abbrev pub AreInOrder : List TreeEntry → Type 0
 AreInOrder [] = Unit {0}
 AreInOrder (e ∷ es) = AllAfter e.path es × AreInOrder es
-
--- the path of the folder in which a path lies
-abbrev pub parent_of : List (List ℕ) → List (List ℕ)
-parent_of path = take (length path - 1) path
 
 -- an entry belongs into a tree: it isn't the root, its parent is a folder there, and a folder has no bytes
 pub record BelongsIn (tree : List TreeEntry) (e : TreeEntry) : Type 0 where

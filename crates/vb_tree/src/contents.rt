@@ -1,7 +1,7 @@
-// What a write makes of a file's bytes.
+// What a write, a truncate and a read make of a file's bytes.
 ghost use Rattle.std.specs.Prelude.{◌≡◌, ◌+◌, ◌-◌, ◌^◌, ◌<◌, ◌++◌, length, replicate, vec_len, slice_index_or, slice_set, OnOk, OnErr};
 ghost use Rattle.vb_tree.specs.declared.tree.TreeEntry.{TreeEntry};
-ghost use Rattle.vb_tree.specs.Operations.{written_over};
+ghost use Rattle.vb_tree.specs.Contents.{written_over, truncated_to, part_of};
 
 use crate::{Bytes, TreeEntry};
 use std::alloc::AllocError;
@@ -48,4 +48,27 @@ pub(crate) fn write_at(
 {
     let entry = &mut entries[place];
     write_over(&mut entry.bytes, offset, written)
+}
+
+/// Cuts the bytes of the entry at a place to a length, or extends them to it by zeros.
+pub(crate) fn resize_at(
+    entries: &mut Vec<TreeEntry>,
+    place: usize,
+    len: u64,
+) -> Result<(), AllocError>
+    requires { place < vec_len entries.old }
+    ensures ok { (d : TreeEntry) → OnOk result (entries.new.items ≡ slice_set entries.old.items place (record (slice_index_or entries.old.items place d) { bytes = truncated_to len (slice_index_or entries.old.items place d).bytes })) }
+    ensures err { OnErr result (entries.new.items ≡ entries.old.items) }
+{
+    let entry = &mut entries[place];
+    entry.bytes.resize(len as usize, 0)
+}
+
+/// The bytes from an offset on, at most so many.
+pub(crate) fn part(bytes: &[u8], offset: u64, most: u32) -> &[u8]
+    ensures { result.now ≡ part_of offset most bytes.now }
+{
+    let start = bytes.len().min(offset as usize);
+    let rest = &bytes[start..];
+    &rest[..rest.len().min(most as usize)]
 }

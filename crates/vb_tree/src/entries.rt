@@ -1,10 +1,10 @@
 // What stands where in a list of entries, and how much the entries take.
-ghost use Rattle.std.specs.Prelude.{◌≡◌, ◌+◌, ◌^◌, ◌<◌, ◌≤◌, length, position, OnOk, OnErr};
+ghost use Rattle.std.specs.Prelude.{◌≡◌, ◌+◌, ◌^◌, ◌<◌, ◌≤◌, not, length, position, OnOk, OnErr};
 ghost use Rattle.std.specs.List.{position_or_len};
 ghost use Rattle.std.specs.Option.{option_copied};
 ghost use Rattle.std.specs.Ordering.{is_lt};
 ghost use Rattle.vb_path.specs.Paths.{same_path, path_cmp};
-ghost use Rattle.vb_tree.specs.Trees.{entry_at, kind_at, insert_entry, pages_of_length, page_count};
+ghost use Rattle.vb_tree.specs.Trees.{entry_at, kind_at, length_at, insert_entry, without, pages_of_length, page_count};
 
 use crate::{Bytes, Kind, Path, TreeEntry};
 use std::alloc::AllocError;
@@ -36,6 +36,16 @@ pub(crate) fn kind_of(entries: &[TreeEntry], path: &[Bytes]) -> Option<Kind>
     }
 }
 
+/// How long the file at a path is, and 0 where there is none.
+pub(crate) fn length_of(entries: &[TreeEntry], path: &[Bytes]) -> u64
+    ensures { result ≡ length_at path.now entries.now }
+{
+    match entry_of(entries, path) {
+        Some(entry) => entry.bytes.len() as u64,
+        None => 0,
+    }
+}
+
 /// The place of the first entry that comes after a path.
 fn later_place(entries: &[TreeEntry], path: &Path) -> Option<usize>
     ensures { result ≡ position (λ e. is_lt (path_cmp path.now e.path)) entries.now }
@@ -55,7 +65,6 @@ fn place_for(entries: &[TreeEntry], path: &Path) -> usize
 }
 
 /// Adds an entry in path order.
-
 pub(crate) fn insert(entries: &mut Vec<TreeEntry>, entry: TreeEntry) -> Result<(), AllocError>
     ensures ok { OnOk result (entries.new.items ≡ insert_entry entry entries.old.items) }
     ensures err { OnErr result (entries.new.items ≡ entries.old.items) }
@@ -63,6 +72,20 @@ pub(crate) fn insert(entries: &mut Vec<TreeEntry>, entry: TreeEntry) -> Result<(
     let place = place_for(entries, &entry.path);
     entries.insert(place, entry)?;
     Ok(())
+}
+
+/// Whether an entry isn't the one at a path.
+fn stays(entry: &TreeEntry, path: &[Bytes]) -> bool
+    ensures { result ≡ not (same_path path.now entry.now.path) }
+{
+    path != entry.path.parts()
+}
+
+/// Removes the entry at a path.
+pub(crate) fn remove(entries: &mut Vec<TreeEntry>, path: &[Bytes])
+    ensures { entries.new.items ≡ without path.now entries.old.items }
+{
+    entries.retain(|entry| stays(entry, path));
 }
 
 /// How many pages a file of this length takes, its map pages among them.

@@ -1,14 +1,19 @@
-// What a writer asks of a tree, and what the tree answers.
+// What a writer asks of a tree.
 ghost use Rattle.std.specs.Prelude.{◌≡◌, IfOk};
 
 use crate::{Bytes, Path};
 use std::alloc::{AllocError, Global};
 
-/// A change that a writer asks for.
+/// What a writer asks of a tree: a change, or a look at it.
+/// Written bytes and read lengths are at most 65,536, and offsets and lengths are below 2^63.
 #[derive(Debug, PartialEq, Eq, Drop)]
 pub enum Op {
     /// Makes an empty file.
     Create {
+        path: Path,
+    },
+    /// Makes a folder without entries.
+    MakeDir {
         path: Path,
     },
     /// Replaces a file's bytes from an offset on. A gap past the end is filled with zeros.
@@ -17,6 +22,38 @@ pub enum Op {
         offset: u64,
         bytes: Bytes,
     },
+    /// Cuts a file to a length, or extends it by zeros.
+    Truncate {
+        path: Path,
+        length: u64,
+    },
+    /// Moves a file, or a folder with all that lies below it. A file that is the target is replaced.
+    Rename {
+        source: Path,
+        target: Path,
+    },
+    /// Removes a file.
+    Remove {
+        path: Path,
+    },
+    /// Removes a folder without entries.
+    RemoveDir {
+        path: Path,
+    },
+    /// Asks for a file's bytes from an offset on, at most so many.
+    Read {
+        path: Path,
+        offset: u64,
+        length: u32,
+    },
+    /// Asks for the names of a folder's entries.
+    List {
+        path: Path,
+    },
+    /// Asks what stands at a path, and how long it is.
+    Stat {
+        path: Path,
+    },
 }
 
 impl Op {
@@ -24,52 +61,51 @@ impl Op {
     pub fn copy(&self, alloc: Global) -> Result<Op, AllocError>
         ensures { IfOk result (λ copied. copied ≡ self.now) }
     {
-        match self {
-            Op::Create { path } => Ok(Op::Create {
+        Ok(match self {
+            Op::Create { path } => Op::Create {
                 path: path.copy(alloc)?,
-            }),
+            },
+            Op::MakeDir { path } => Op::MakeDir {
+                path: path.copy(alloc)?,
+            },
             Op::Write {
                 path,
                 offset,
                 bytes,
-            } => Ok(Op::Write {
+            } => Op::Write {
                 path: path.copy(alloc)?,
                 offset: *offset,
                 bytes: Bytes::of(alloc, bytes.slice())?,
-            }),
-        }
+            },
+            Op::Truncate { path, length } => Op::Truncate {
+                path: path.copy(alloc)?,
+                length: *length,
+            },
+            Op::Rename { source, target } => Op::Rename {
+                source: source.copy(alloc)?,
+                target: target.copy(alloc)?,
+            },
+            Op::Remove { path } => Op::Remove {
+                path: path.copy(alloc)?,
+            },
+            Op::RemoveDir { path } => Op::RemoveDir {
+                path: path.copy(alloc)?,
+            },
+            Op::Read {
+                path,
+                offset,
+                length,
+            } => Op::Read {
+                path: path.copy(alloc)?,
+                offset: *offset,
+                length: *length,
+            },
+            Op::List { path } => Op::List {
+                path: path.copy(alloc)?,
+            },
+            Op::Stat { path } => Op::Stat {
+                path: path.copy(alloc)?,
+            },
+        })
     }
-}
-
-/// What a tree answers to an operation.
-#[derive(Debug, PartialEq, Eq, Drop)]
-pub enum Reply {
-    Done,
-    Refused(Refusal),
-}
-
-impl Reply {
-    /// An equal reply.
-    pub fn copy(&self, _alloc: Global) -> Result<Reply, AllocError>
-        ensures { IfOk result (λ copied. copied ≡ self.now) }
-    {
-        match self {
-            Reply::Done => Ok(Reply::Done),
-            Reply::Refused(reason) => Ok(Reply::Refused(*reason)),
-        }
-    }
-}
-
-/// Why an operation was refused. The numbers are what would be after the operation, and the limit.
-#[derive(Clone, Copy, Debug, PartialEq, Eq)]
-pub enum Refusal {
-    RootFixed,
-    NoEntry,
-    NoParent,
-    ParentNotDir,
-    Exists,
-    NotAFile,
-    TooLong { length: u64 },
-    TooManyNodes { nodes: u32, limit: u32 },
-    NoSpace { pages: u64, limit: u64 },
 }

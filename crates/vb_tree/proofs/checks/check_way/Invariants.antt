@@ -1,6 +1,6 @@
 use Rattle.std.proofs.Common.{◌≡◌, ◌-◌, take, drop, Option}
-use Rattle.vb_tree.specs.declared.operation.Refusal.{Refusal}
-use Rattle.vb_tree.specs.Operations.{refuse_way, refuse_rest}
+use Rattle.vb_tree.specs.declared.reply.Refusal.{Refusal}
+use Rattle.vb_tree.specs.Refusals.{refuse_way, refuse_rest}
 use Rattle.vb_tree.proofs.checks.check_way.Given as goal
 
 abbrev pub invariant-loop-depth : goal.invariant-loop-depth

@@ -1,10 +1,11 @@
 use Rattle.std.proofs.Common.{◌≡◌, Option, Some, sym, ap, ◌∙◌, is_none}
 use Rattle.vb_tree.specs.declared.tree.Kind.{Kind}
 use Rattle.vb_tree.specs.declared.tree.Kind.TheVariants.{Folder, File}
-use Rattle.vb_tree.specs.declared.operation.Refusal.{Refusal}
-use Rattle.vb_tree.specs.declared.operation.Refusal.TheVariants.{NoEntry, NotAFile}
+use Rattle.vb_tree.specs.declared.reply.Refusal.{Refusal}
+use Rattle.vb_tree.specs.declared.reply.Refusal.TheVariants.{NoEntry, NotAFile}
 use Rattle.vb_tree.specs.Trees.{kind_at}
-use Rattle.vb_tree.specs.Operations.{refuse, is_folder}
+use Rattle.vb_tree.specs.Trees.{is_folder}
+use Rattle.vb_tree.specs.Refusals.{refuse}
 use Rattle.vb_tree.proofs.Lookups.{kind_at-place, kind_at-none}
 use Rattle.vb_tree.proofs.checks.find_file.Goals as goal
 

@@ -1,8 +1,8 @@
 use Rattle.std.proofs.Common.{◌≡◌, length, get_or, refl, ap, ◌∙◌}
 use Rattle.std.proofs.lemmas.Result.{err_from_is_err_and}
-use Rattle.vb_tree.specs.Operations.{new_length}
+use Rattle.vb_tree.specs.Contents.{new_length}
 use Rattle.vb_tree.proofs.Sizes.{refuse_length-write}
-use Rattle.vb_tree.proofs.checks.check_write.Goals as goal
+use Rattle.vb_tree.proofs.room.check_write.Goals as goal
 
 pub returns-clause-refused : goal.returns-clause-refused
 returns-clause-refused c =

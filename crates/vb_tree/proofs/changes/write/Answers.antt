@@ -4,10 +4,11 @@ use Rattle.vb_tree.specs.declared.tree.TreeEntry.{TreeEntry}
 use Rattle.vb_tree.specs.declared.operation.Op.{Op}
 use Rattle.vb_tree.specs.declared.operation.Op.TheVariants.{Write}
 use Rattle.vb_path.specs.Paths.{same_path}
-use Rattle.vb_tree.specs.Operations.{written_over, refusal_of}
+use Rattle.vb_tree.specs.Contents.{written_over}
+use Rattle.vb_tree.specs.Refusals.{refusal_of}
 use Rattle.vb_tree.proofs.Lookups.{with_bytes_at-place}
 use Rattle.vb_tree.proofs.Allowed.{tree_after-allowed}
-use Rattle.vb_tree.proofs.play.write.Goals as goal
+use Rattle.vb_tree.proofs.changes.write.Goals as goal
 
 pub returns-in_ok-write_at-in-Ok-clause-tree : goal.returns-in_ok-write_at-in-Ok-clause-tree
 returns-in_ok-write_at-in-Ok-clause-tree c =
