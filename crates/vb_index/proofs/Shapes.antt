@@ -4,12 +4,12 @@ use Rattle.std.specs.Option.{option_map, option_and_then, option_or}
 use Rattle.std.proofs.lemmas.List.{take_more}
 use Rattle.vb_tree.specs.declared.tree.Kind.{Kind}
 use Rattle.vb_tree.specs.declared.tree.TreeEntry.{TreeEntry}
-use Rattle.vb_tree.specs.declared.operation.Refusal.{Refusal}
+use Rattle.vb_tree.specs.declared.reply.Refusal.{Refusal}
 use Rattle.vb_tree.specs.Trees.{is_root, entry_at, kind_at}
-use Rattle.vb_tree.specs.Operations.{refuse_step, refuse_way, refuse_rest}
-use Rattle.vb_tree.proofs.Ways.{refuse_rest-step}
+use Rattle.vb_tree.specs.Refusals.{refuse_step, refuse_way, refuse_rest}
+use Rattle.vb_tree.proofs.Ways.{refuse_rest-step, refuse_rest-end}
 use Rattle.vb_index.specs.declared.held.Held.{Held}
-use Rattle.vb_index.specs.Nodes.{held_at, holds_folder, child_of, slot_at, slot_below}
+use Rattle.vb_index.specs.Nodes.{held_at, holds_folder, child_of, slot_at, slot_below, IsTable}
 use Rattle.vb_index.specs.Indexes.{Shape, shape_of, shape_below, shape_at, shape_of_entry, shape_in, HasShapeOf}
 use Rattle.vb_index.proofs.Walks.{walk-snoc}
 
@@ -60,3 +60,31 @@ OnWay-next nodes parts depth folder slot on h child is passes =
       is_folder = is;
       way = λ tree next shape. way-step nodes parts depth folder on h tree next shape ∙ passes (refuse_rest tree (take (depth + 1) parts) (drop (depth + 1) parts) next);
     }
+
+-- the same, at a depth that is one more
+pub OnWay-step : (nodes : List (Option Held)) (parts : List (List ℕ)) (depth more folder slot : ℕ) (name : List ℕ) → OnWay nodes parts depth folder → more ≡ depth + 1 → depth + 1 < length parts → get_or parts depth [] ≡ name → child_of nodes folder name ≡ Some slot → holds_folder (held_at nodes slot) ≡ true → ((next : Option Refusal) → refuse_step (option_map (λ s. s.kind) (shape_below nodes folder name)) next ≡ next) → OnWay nodes parts more slot
+OnWay-step nodes parts depth more folder slot name on up h same child is passes =
+    let P : ℕ → Type 0 = λ k. OnWay nodes parts k slot in
+    subst P (sym up) (OnWay-next nodes parts depth folder slot on h
+    (ap (child_of nodes folder) same ∙ child) is
+    (λ next. ap (λ m. refuse_step (option_map (λ (s : Shape). s.kind) (shape_below nodes folder m)) next) same ∙ passes next))
+
+-- the way where its next step is refused
+pub OnWay-refused : (nodes : List (Option Held)) (parts : List (List ℕ)) (depth folder : ℕ) (name : List ℕ) (reason : Refusal) → OnWay nodes parts depth folder → depth + 1 < length parts → get_or parts depth [] ≡ name → ((next : Option Refusal) → refuse_step (option_map (λ s. s.kind) (shape_below nodes folder name)) next ≡ Some reason) → (tree : List TreeEntry) (next : Option Refusal) → HasShapeOf nodes tree → refuse_way tree parts next ≡ Some reason
+OnWay-refused nodes parts depth folder name reason on h same stops tree next shape =
+    way-step nodes parts depth folder on h tree next shape
+    ∙ ap (λ m. refuse_step (option_map (λ (s : Shape). s.kind) (shape_below nodes folder m)) (refuse_rest tree (take (depth + 1) parts) (drop (depth + 1) parts) next)) same
+    ∙ stops (refuse_rest tree (take (depth + 1) parts) (drop (depth + 1) parts) next)
+
+-- the walk at its begin
+pub OnWay-start : (nodes : List (Option Held)) (parts : List (List ℕ)) → IsTable nodes → OnWay nodes parts 0 0
+OnWay-start nodes parts table =
+    record {
+      at = refl;
+      is_folder = table.root;
+      way = λ tree next shape. refl;
+    }
+
+-- the walk at its end
+pub OnWay-end : (nodes : List (Option Held)) (parts : List (List ℕ)) (depth folder : ℕ) → OnWay nodes parts depth folder → length parts ≤ depth + 1 → (tree : List TreeEntry) (next : Option Refusal) → HasShapeOf nodes tree → refuse_way tree parts next ≡ next
+OnWay-end nodes parts depth folder on h tree next shape = on.way tree next shape ∙ refuse_rest-end tree parts depth next h

@@ -5,7 +5,7 @@ use Rattle.std.proofs.lemmas.Bool.{cases_Bool, and_parts, false≢true}
 use Rattle.std.proofs.lemmas.Bool.Decides.{Decides-eqb}
 use Rattle.std.proofs.lemmas.List.{append-nil}
 use Rattle.vb_index.specs.Nodes.{slot_below, same_name}
-use Rattle.vb_index.proofs.Children.{same_name-Decides}
+use Rattle.vb_index.proofs.ChildLaws.{same_name-Decides}
 
 -- a list is made at its end
 pub snoc-ind : {A : Type 0} (P : List A → Type 0) → P [] → ((xs : List A) (x : A) → P xs → P (xs ++ x ∷ [])) → (xs : List A) → P xs
@@ -61,15 +61,16 @@ walk-alone child forest = snoc-ind (Alone child) root more where
       let last = last_step child r z slot e in
       let zero : 0 ≡ slot = cc in
       absurd (forest.root_apart last.0 z (last.2 ∙ ap (λ k. Some k) (sym zero)))) other
+
   more : (q : List (List ℕ)) (y : List ℕ) → Alone child q → Alone child (q ++ y ∷ [])
   more q y ih other slot h = let mine = last_step child q y slot h in
       snoc-ind (λ r. slot_below child 0 r ≡ Some slot → q ++ y ∷ [] ≡ r)
       (λ e. let zero : 0 ≡ slot = cc in absurd (forest.root_apart mine.0 y (mine.2 ∙ ap (λ k. Some k) (sym zero))))
       (λ r z below e.
-        let last = last_step child r z slot e in
-        let same = forest.one_parent mine.0 last.0 y z slot mine.2 last.2 in
-        let paths : q ≡ r = ih r last.0 (mine.1 ∙ ap (λ k. Some k) same.0) last.1 in
-        ap (λ p. p ++ y ∷ []) paths ∙ ap (λ n. r ++ n ∷ []) same.1)
+      let last = last_step child r z slot e in
+      let same = forest.one_parent mine.0 last.0 y z slot mine.2 last.2 in
+      let paths : q ≡ r = ih r last.0 (mine.1 ∙ ap (λ k. Some k) same.0) last.1 in
+      ap (λ p. p ++ y ∷ []) paths ∙ ap (λ n. r ++ n ∷ []) same.1)
       other
 
 -- two tables of children that differ in one child, below which nothing is in either
@@ -89,6 +90,7 @@ pub walk-changed : (before after : ℕ → List ℕ → Option ℕ) (folder : �
 walk-changed before after folder name at d there = snoc-ind (Changed before after folder name at) root more where
   root : Changed before after folder name at []
   root = inr ((λ e. omega (arith, ap length e, length-append at (name ∷ []))), refl)
+
   more : (q : List (List ℕ)) (y : List ℕ) → Changed before after folder name at q → Changed before after folder name at (q ++ y ∷ [])
   more q y (inl h) =
       let here : slot_below before 0 q ≡ before folder name = ap (λ p. slot_below before 0 p) h.0 ∙ walk-snoc before 0 at name ∙ ap (option_and_then (λ t. before t name)) there in
@@ -98,26 +100,32 @@ walk-changed before after folder name at d there = snoc-ind (Changed before afte
   more q y (inr h) = by (slot_below before 0 q) refl where
     step : (t : Option ℕ) → slot_below before 0 q ≡ t → slot_below after 0 (q ++ y ∷ []) ≡ option_and_then (λ s. after s y) t
     step t e = walk-snoc after 0 q y ∙ ap (option_and_then (λ s. after s y)) (h.1 ∙ e)
+
     old : (t : Option ℕ) → slot_below before 0 q ≡ t → slot_below before 0 (q ++ y ∷ []) ≡ option_and_then (λ s. before s y) t
     old t e = walk-snoc before 0 q y ∙ ap (option_and_then (λ s. before s y)) e
+
     other : (t : ℕ) → slot_below before 0 q ≡ Some t → ((t ≡ folder) × (y ≡ name) → ⊥) → Changed before after folder name at (q ++ y ∷ [])
-    other t e apart = inr ((λ eq. let both = snoc-inj q at y name eq in
+    other t e apart = inr (
+      (λ eq. let both = snoc-inj q at y name eq in
           let same : Some t ≡ Some folder = sym e ∙ ap (λ p. slot_below before 0 p) both.0 ∙ there in
           apart (cc, both.1)),
-        step (Some t) e ∙ d.others t y apart ∙ sym (old (Some t) e))
+      step (Some t) e ∙ d.others t y apart ∙ sym (old (Some t) e),
+    )
+
     same : (t : ℕ) → slot_below before 0 q ≡ Some t → t ≡ folder → y ≡ name → Changed before after folder name at (q ++ y ∷ [])
     same t e is n =
         let paths : q ≡ at = walk-alone before d.forest q at folder (e ∙ ap (λ k. Some k) is) there in
         inl (ap (λ p. p ++ y ∷ []) paths ∙ ap (λ m. at ++ m ∷ []) n, step (Some t) e ∙ ap (λ k. after k y) is ∙ ap (after folder) n)
+
     by : (t : Option ℕ) → slot_below before 0 q ≡ t → Changed before after folder name at (q ++ y ∷ [])
     by None e = inr ((λ eq. let nothing : None ≡ Some folder = sym e ∙ ap (λ p. slot_below before 0 p) (snoc-inj q at y name eq).0 ∙ there in cc), step None e ∙ sym (old None e))
     by (Some t) e = elim (cases_Bool (t == folder)) [
-        | inr f ↦ other t e (λ both. false≢true (sym f ∙ (Decides-eqb t folder).1 both.0))
-        | inl f ↦ elim (cases_Bool (same_name y name)) [
-            | inr g ↦ other t e (λ both. false≢true (sym g ∙ (same_name-Decides y name).1 both.1))
-            | inl g ↦ same t e ((Decides-eqb t folder).0 f) ((same_name-Decides y name).0 g)
-          ]
+      | inr f ↦ other t e (λ both. false≢true (sym f ∙ (Decides-eqb t folder).1 both.0))
+      | inl f ↦ elim (cases_Bool (same_name y name)) [
+        | inr g ↦ other t e (λ both. false≢true (sym g ∙ (same_name-Decides y name).1 both.1))
+        | inl g ↦ same t e ((Decides-eqb t folder).0 f) ((same_name-Decides y name).0 g)
       ]
+    ]
 
 -- where no child changes, no path does
 pub walk-same : (before after : ℕ → List ℕ → Option ℕ) → ((t : ℕ) (y : List ℕ) → after t y ≡ before t y) → (path : List (List ℕ)) (from : ℕ) → slot_below after from path ≡ slot_below before from path

@@ -1,16 +1,18 @@
 -- Indexes: limits and nodes, and the trees that have the folders, files and lengths of the nodes.
-use Rattle.std.specs.Prelude.{◌≡◌, ℕ, ◌<◌, if◌then◌else◌, IsSome, List, [], ◌∷◌, length, get_or, Option, Some, None, Result, Ok, Err}
+use Rattle.std.specs.Prelude.{◌≡◌, ℕ, ◌<◌, true, if◌then◌else◌, IsSome, List, [], ◌∷◌, length, get_or, Option, Some, None, Result, Ok, Err}
 use Rattle.std.specs.Option.{option_map, option_and_then}
+use Rattle.vb_inode.specs.declared.node.NodeKind.{NodeKind}
+use Rattle.vb_inode.specs.declared.node.NodeKind.TheVariants.{Folder as FolderNode, File as FileNode}
 use Rattle.vb_tree.specs.declared.tree.Kind.{Kind}
 use Rattle.vb_tree.specs.declared.tree.Kind.TheVariants.{Folder, File}
 use Rattle.vb_tree.specs.declared.tree.Limits.{Limits}
 use Rattle.vb_tree.specs.declared.tree.TreeEntry.{TreeEntry}
-use Rattle.vb_tree.specs.declared.operation.Refusal.{Refusal}
-use Rattle.vb_tree.specs.Trees.{is_root, entry_at, node_count, page_count}
+use Rattle.vb_tree.specs.declared.reply.Refusal.{Refusal}
+use Rattle.vb_tree.specs.Trees.{is_root, entry_at, parent_of, name_of, node_count, page_count}
 use Rattle.vb_index.specs.declared.errors.IndexError.{IndexError}
 use Rattle.vb_index.specs.declared.errors.IndexError.TheVariants.{Refused, Memory}
 use Rattle.vb_index.specs.declared.held.Held.{Held}
-use Rattle.vb_index.specs.Nodes.{kind_of, held_at, child_of, slot_at, nodes_in, pages_in}
+use Rattle.vb_index.specs.Nodes.{kind_of, held_at, holds_folder, child_of, slot_at, nodes_in, pages_in, IsTable}
 
 -- an index: its limits, and what each slot holds
 pub record IndexState : Type 0 where
@@ -59,3 +61,21 @@ pub record IsLeastFree (nodes : List (Option Held)) (slot : ℕ) : Type 0 where
   pub there : slot < length nodes
   pub free : held_at nodes slot ≡ None
   pub least : (k : ℕ) → k < slot → IsSome (held_at nodes k)
+
+-- the kind of an entry's node
+abbrev pub node_kind : Kind → NodeKind
+node_kind Folder = FolderNode
+node_kind File = FileNode
+
+-- what an index holds of a new entry: an empty file, or a folder without entries
+abbrev pub new_held : ℕ → Kind → ℕ → List ℕ → Held
+new_held slot kind folder name = record { node = record { slot = slot; kind = node_kind kind; parent = folder; name = name; length = 0; maps = [] }; refs = [] }
+
+-- a folder of the index is the place for a new entry at a path
+pub record IsPlace (nodes : List (Option Held)) (path : List (List ℕ)) (folder : ℕ) : Type 0 where
+  pub table : IsTable nodes
+  pub below_root : 0 < length path
+  pub at : slot_at nodes (parent_of path) ≡ Some folder
+  pub in_folder : holds_folder (held_at nodes folder) ≡ true
+  pub new_name : child_of nodes folder (name_of path) ≡ None
+  pub room : nodes_in nodes < length nodes

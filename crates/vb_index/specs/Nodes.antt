@@ -5,12 +5,13 @@ use Rattle.std.specs.List.{position, sum_by}
 use Rattle.std.specs.Ordering.{is_eq, nat_cmp}
 use Rattle.std.specs.Cmp.Lexicographic.{slice_cmp}
 use Rattle.vb_index.specs.declared.held.Held.{Held}
+use Rattle.vb_block.specs.declared.digest.Ref.{Ref}
 use Rattle.vb_inode.specs.declared.node.Node.{Node}
 use Rattle.vb_inode.specs.declared.node.NodeKind.{NodeKind}
 use Rattle.vb_inode.specs.declared.node.NodeKind.TheVariants.{Free as FreeNode, Folder as FolderNode, File as FileNode}
 use Rattle.vb_tree.specs.declared.tree.Kind.{Kind}
 use Rattle.vb_tree.specs.declared.tree.Kind.TheVariants.{Folder, File}
-use Rattle.vb_tree.specs.Operations.{longest_file}
+use Rattle.vb_tree.specs.Refusals.{longest_file}
 use Rattle.vb_tree.specs.Trees.{data_pages_of, pages_of_length}
 
 -- whether a node is a folder
@@ -33,10 +34,22 @@ kind_of node = if is_folder_node node.kind then Folder else File
 abbrev pub held_at : List (Option Held) → ℕ → Option Held
 held_at nodes slot = get_or nodes slot None
 
+-- what slot 0 holds at the begin: the root
+abbrev pub root_held : Held
+root_held = record { node = record { slot = 0; kind = FolderNode; parent = 0; name = []; length = 0; maps = [] }; refs = [] }
+
 -- whether a slot holds a folder
 abbrev pub holds_folder : Option Held → Bool
 holds_folder None = false
 holds_folder (Some held) = is_folder_node held.node.kind
+
+-- the references of a file, None where a slot holds no file
+abbrev pub refs_of : Held → Option (List Ref)
+refs_of held = if is_file_node held.node.kind then Some held.refs else None
+
+-- the references of the file in a slot
+abbrev pub refs_at : List (Option Held) → ℕ → Option (List Ref)
+refs_at nodes slot = option_and_then refs_of (held_at nodes slot)
 
 -- whether two names are one
 abbrev pub same_name : List ℕ → List ℕ → Bool

@@ -63,18 +63,18 @@ pub child_of-gone : (nodes : List (Option Held)) (slot parent : ℕ) (name : Lis
 unfolding child_of
 child_of-gone nodes slot parent name l only =
     position-nowhere (is_child parent name) (set nodes slot None) None (λ k below.
-      elim (cases_Bool (is_child parent name (held_at (set nodes slot None) k))) [
-        | inr h ↦ h
-        | inl h ↦ absurd (here k (rw length-set at below) h)
-      ])
+    elim (cases_Bool (is_child parent name (held_at (set nodes slot None) k))) [
+      | inr h ↦ h
+      | inl h ↦ absurd (here k (rw length-set at below) h)
+    ])
   where
     here : (k : ℕ) → k < length nodes → is_child parent name (held_at (set nodes slot None) k) ≡ true → ⊥
     here k below h = elim (cases_Bool (k == slot)) [
-        | inl e ↦ (let is : k ≡ slot = (Decides-eqb k slot).0 e in
-            false≢true (sym (ap (is_child parent name) (ap (λ j. held_at (set nodes slot None) j) is ∙ get_or-set_same nodes slot None None l)) ∙ h))
-        | inr e ↦ (let apart : k ≡ slot → ⊥ = λ is. false≢true (sym e ∙ (Decides-eqb k slot).1 is) in
-            apart (only k below (sym (ap (is_child parent name) (get_or-set_other nodes slot k None None apart)) ∙ h)))
-      ]
+      | inl e ↦ (let is : k ≡ slot = (Decides-eqb k slot).0 e in
+          false≢true (sym (ap (is_child parent name) (ap (λ j. held_at (set nodes slot None) j) is ∙ get_or-set_same nodes slot None None l)) ∙ h))
+      | inr e ↦ (let apart : k ≡ slot → ⊥ = λ is. false≢true (sym e ∙ (Decides-eqb k slot).1 is) in
+          apart (only k below (sym (ap (is_child parent name) (get_or-set_other nodes slot k None None apart)) ∙ h)))
+    ]
 
 -- a free slot is filled: the child of that name in that folder stands there, and no other changes
 pub child_of-fill : (nodes : List (Option Held)) (slot : ℕ) (held : Held) → slot < length nodes → held_at nodes slot ≡ None → child_of nodes held.node.parent held.node.name ≡ None → (parent : ℕ) (name : List ℕ) → child_of (set nodes slot (Some held)) parent name ≡ cond (is_child parent name (Some held)) (Some slot) (child_of nodes parent name)
