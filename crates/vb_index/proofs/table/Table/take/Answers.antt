@@ -23,7 +23,7 @@ overflow_sub-count c =
 pub overflow_sub-pages : goal.overflow_sub-pages
 overflow_sub-pages c =
     let among = among_totals c.self.inside.nodes.items c.args.slot c.in-Some.held.now (sym c.in-Some.ensures) in
-    omega (arith, among.1, c.self.invariant.pages, c.pages_of-pages.ensures.pages)
+    omega (arith, among.1, c.self.invariant.pages, c.pages_of.ensures.pages)
 
 pub invariant_of-self-2 : goal.invariant_of-self-2
 invariant_of-self-2 c =
@@ -42,5 +42,5 @@ invariant_of-self-2 c =
       found = c.drop_child.ensures.gone;
       free = c.in_ok-insert.ensures.updates.0;
       count = omega (arith, among.0, c.self.invariant.count);
-      pages = omega (arith, among.1, c.self.invariant.pages, c.pages_of-pages.ensures.pages);
+      pages = omega (arith, among.1, c.self.invariant.pages, c.pages_of.ensures.pages);
     })
