@@ -1,0 +1,12 @@
+pub mod Additions
+pub mod Beginnings
+pub mod ChildLaws
+pub mod Growth
+pub mod Kept
+pub mod Newness
+pub mod Positions
+pub mod Shapes
+pub mod Shrinking
+pub mod Steps
+pub mod Tables
+pub mod Walks

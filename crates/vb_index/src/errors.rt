@@ -1,0 +1,31 @@
+// Why an index doesn't answer.
+ghost use Rattle.std.specs.Prelude.{◌≡◌};
+ghost use Rattle.vb_index.specs.declared.errors.IndexError.TheVariants as index_errors;
+
+use std::alloc::AllocError;
+use vb_tree::Refusal;
+
+/// Why a call of an index changed nothing.
+#[derive(Clone, Copy, Debug, PartialEq, Eq)]
+pub enum IndexError {
+    /// The tree refuses the operation, for this reason.
+    Refused(Refusal),
+    /// No memory was found.
+    Memory,
+}
+
+impl From<AllocError> for IndexError {
+    ghost from_gives = { λ _ e. e ≡ index_errors.Memory };
+
+    fn from(_: AllocError) -> Self {
+        IndexError::Memory
+    }
+}
+
+impl From<Refusal> for IndexError {
+    ghost from_gives = { λ reason e. e ≡ index_errors.Refused reason };
+
+    fn from(reason: Refusal) -> Self {
+        IndexError::Refused(reason)
+    }
+}

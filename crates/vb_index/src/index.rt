@@ -1,0 +1,142 @@
+// The index: limits, and nodes with the references of their pages.
+ghost use Rattle.std.specs.Prelude.{◌≡◌, ◌++◌, ◌-◌, ◌<◌, true, replicate, length, slice_set, [], ◌∷◌, List, ℕ, Option, Some, None, IfOk, OnOk, OnErr};
+ghost use Rattle.std.specs.Option.{option_copied, option_map, option_or};
+ghost use Rattle.std.specs.Result.{result_err};
+ghost use Rattle.vb_tree.specs.declared.reply.Refusal.{Refusal};
+ghost use Rattle.vb_tree.specs.declared.tree.TreeEntry.{TreeEntry};
+ghost use Rattle.vb_tree.specs.Trees.{insert_entry, name_of, AreInLimits};
+ghost use Rattle.vb_tree.specs.Refusals.{refuse_new, refuse_missing};
+ghost use Rattle.vb_index.specs.Nodes.{root_held, refs_at, held_at, holds_folder, child_of, slot_at, nodes_in, pages_in, IsHeld};
+ghost use Rattle.vb_index.specs.Indexes.{shape_of, shape_of_entry, HasShapeOf, IsAnswer, IsLeastFree, new_held};
+
+use crate::grow::{newly_held, place_for};
+use crate::table::Table;
+use crate::walk::slot_of;
+use crate::{Held, IndexError, Kind, Limits, Node, NodeKind, Path, Refs, Refusal};
+use std::alloc::{AllocError, Global};
+use std::marker::Model;
+
+/// The nodes of a tree in memory, under limits. Contracts see the limits and what each slot holds.
+#[derive(Drop)]
+pub struct Index {
+    limits: Limits,
+    table: Table,
+}
+
+impl Model for Index {
+    ghost use Rattle.std.specs.Prelude.{◌≡◌, length};
+    ghost use Rattle.vb_index.specs.Indexes.{IndexState};
+
+    ghost Value = { IndexState };
+
+    ghost view = { λ a. record { limits = a.limits; nodes = a.table } };
+
+    ghost invariant = { λ a. a.limits.nodes ≡ length a.table };
+}
+
+impl Index {
+    /// A root without entries, under limits. All its memory by slot is taken here.
+    pub fn new(alloc: Global, limits: Limits) -> Result<Index, AllocError>
+        requires { AreInLimits limits }
+        ensures nodes { IfOk result (λ index. index ≡ record {
+          limits = limits;
+          nodes = Some root_held ∷ replicate (limits.nodes - 1) None;
+        }) }
+        ensures tree { IfOk result (λ index. HasShapeOf index.nodes []) }
+    {
+        Ok(Index {
+            limits,
+            table: Table::new(alloc, limits.nodes)?,
+        })
+    }
+
+    /// The slot of the node at a path.
+    pub fn walk(&self, path: &Path) -> Result<u32, Refusal>
+        ensures answer { (tree : List TreeEntry) (next : Option Refusal) → HasShapeOf self.now.nodes tree
+            → refuse_missing tree path.now next ≡ option_or (result_err result) next }
+        ensures slot { IfOk result (λ slot. slot_at self.now.nodes path.now ≡ Some slot) }
+    {
+        slot_of(&self.table, path.parts())
+    }
+
+    /// The references of a file's pages, None exactly where the slot holds no file.
+    pub fn refs(&self, slot: u32) -> Option<&Refs>
+        ensures { option_copied result ≡ refs_at self.now.nodes slot }
+    {
+        let held = self.table.held(slot)?;
+        match held.node.kind {
+            NodeKind::File => Some(&held.refs),
+            _ => None,
+        }
+    }
+
+    /// How many nodes there are, the root among them.
+    pub fn count(&self) -> u32
+        ensures { result ≡ nodes_in self.now.nodes }
+    {
+        self.table.count()
+    }
+
+    /// How many pages all files take, their map pages among them.
+    pub fn pages(&self) -> u64
+        ensures { result ≡ pages_in self.now.nodes }
+    {
+        self.table.pages()
+    }
+
+    /// The node in a slot, None where the slot is free or there is none.
+    pub fn node(&self, slot: u32) -> Option<&Node>
+        ensures { option_copied result ≡ option_map (λ held. held.node) (held_at self.now.nodes slot) }
+    {
+        match self.table.held(slot) {
+            Some(held) => Some(&held.node),
+            None => None,
+        }
+    }
+
+    /// Adds an empty file or a folder at a path, in the least slot that is free. It answers the slot.
+    pub fn add(&mut self, alloc: Global, path: &Path, kind: Kind) -> Result<u32, IndexError>
+        ensures answer { (tree : List TreeEntry) → HasShapeOf self.old.nodes tree
+            → IsAnswer (refuse_new self.old.limits tree path.now) result }
+        ensures tree { (tree : List TreeEntry) → HasShapeOf self.old.nodes tree
+            → OnOk result (HasShapeOf self.new.nodes
+            (insert_entry (record { path = path.now; kind = kind; bytes = [] }) tree)) }
+        ensures slot { IfOk result (λ slot. IsLeastFree self.old.nodes slot) }
+        ensures nodes { IfOk result (λ slot. (folder : ℕ)
+            × (self.new ≡ record self.old {
+              nodes = slice_set self.old.nodes slot
+                  (Some (new_held slot kind folder (name_of path.now)));
+            })) }
+        ensures err { OnErr result (self.new ≡ self.old) }
+    {
+        let names = path.parts();
+        let folder = place_for(self.limits, &self.table, names)?;
+        let slot = self.table.least_free();
+        let held = newly_held(alloc, slot, kind, folder, names)?;
+        self.table.put(alloc, held)?;
+        Ok(slot)
+    }
+
+    /// Puts a node with its references into its own slot.
+    pub fn put(&mut self, alloc: Global, node: Node, refs: Refs) -> Result<(), AllocError>
+        requires above_root { 0 < node.slot }
+        requires in_table { node.slot < length self.old.nodes }
+        requires free { held_at self.old.nodes node.slot ≡ None }
+        requires in_folder { holds_folder (held_at self.old.nodes node.parent) ≡ true }
+        requires new_name { child_of self.old.nodes node.parent node.name ≡ None }
+        requires fits { IsHeld node.slot (record { node = node; refs = refs }) }
+        ensures tree { (tree : List TreeEntry) (folder : List (List ℕ)) (entry : TreeEntry)
+            → HasShapeOf self.old.nodes tree
+            → slot_at self.old.nodes folder ≡ Some node.parent
+            → entry.path ≡ folder ++ node.name ∷ []
+            → shape_of_entry entry ≡ shape_of (record { node = node; refs = refs })
+            → OnOk result (HasShapeOf self.new.nodes (insert_entry entry tree)) }
+        ensures nodes { OnOk result (self.new ≡ record self.old {
+          nodes = slice_set self.old.nodes node.slot
+              (Some (record { node = node; refs = refs }));
+        }) }
+        ensures err { OnErr result (self.new ≡ self.old) }
+    {
+        self.table.put(alloc, Held { node, refs })
+    }
+}

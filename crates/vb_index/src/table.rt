@@ -1,0 +1,185 @@
+// The table of nodes: by slot, and by folder and name.
+ghost use Rattle.std.specs.Prelude.{◌≡◌, ◌-◌, ◌<◌, ◌≤◌, true, ◌∷◌, replicate, length, Some, None, IsSome, List, ℕ, IfOk, OnOk, OnErr, slice_set};
+ghost use Rattle.std.specs.Option.{option_copied, option_and_then};
+ghost use Rattle.vb_index.specs.Nodes.{root_held, held_at, holds_folder, child_of, nodes_in, pages_in, IsHeld, IsTable};
+ghost use Rattle.vb_index.specs.Indexes.{IsLeastFree};
+ghost use Rattle.vb_tree.specs.Trees.{pages_of_length};
+ghost use Rattle.vb_tree.specs.Refusals.{longest_file};
+
+use crate::children::{Entries, add_child, drop_child};
+use crate::fresh::{fresh_children, fresh_nodes, fresh_slots};
+use crate::{Bytes, Held};
+use std::alloc::{AllocError, Global};
+use std::collections::BTreeSet;
+use std::marker::Model;
+
+/// Nodes by slot. Contracts see the list of what each slot holds.
+#[derive(Drop)]
+pub(crate) struct Table {
+    nodes: Vec<Option<Held>>,
+    children: Vec<Entries>,
+    free: BTreeSet<u32>,
+    count: u32,
+    pages: u64,
+}
+
+impl Model for Table {
+    ghost use Rattle.std.specs.Prelude.{List, Option};
+    ghost use Rattle.vb_index.specs.declared.held.Held.{Held};
+
+    ghost Value = { List (Option Held) };
+
+    ghost use Rattle.vb_index.specs.Tables.{IsKept};
+
+    ghost view = { λ a. a.nodes.items };
+
+    ghost invariant = { IsKept };
+}
+
+impl Table {
+    /// A root without entries, and so many slots.
+    #[tactic(auto, using(crate::proofs::Beginnings::fresh))]
+    pub fn new(alloc: Global, slots: u32) -> Result<Table, AllocError>
+        requires some { 0 < slots }
+        requires few { slots ≤ 65536 }
+        ensures { IfOk result (λ table. table ≡ Some root_held ∷ replicate (slots - 1) None) }
+    {
+        let nodes = fresh_nodes(alloc, slots)?;
+        let children = fresh_children(alloc, slots)?;
+        let free = fresh_slots(alloc, slots)?;
+        Ok(Table {
+            nodes,
+            children,
+            free,
+            count: 1,
+            pages: 0,
+        })
+    }
+
+    /// The slot of the root.
+    pub fn root(&self) -> u32
+        ensures slot { result ≡ 0 }
+        ensures table { IsTable self.now }
+    {
+        let _ = &self.nodes;
+        0
+    }
+
+    /// How many nodes there are, the root among them.
+    pub fn count(&self) -> u32
+        ensures count { result ≡ nodes_in self.now }
+        ensures table { IsTable self.now }
+    {
+        self.count
+    }
+
+    /// How many pages all files take.
+    pub fn pages(&self) -> u64
+        ensures pages { result ≡ pages_in self.now }
+    {
+        self.pages
+    }
+
+    /// The slot of the entry of a name in a folder.
+    pub fn child(&self, parent: u32, name: &Bytes) -> Option<u32>
+        requires { parent < length self.now }
+        ensures { result ≡ child_of self.now parent name.now }
+    {
+        self.children[parent as usize].get(name).copied()
+    }
+
+    /// What stands at a name in a folder.
+    #[tactic(auto, using(crate::proofs::Tables::slots))]
+    pub fn entry(&self, folder: u32, name: &Bytes) -> Option<&Held>
+        requires { holds_folder (held_at self.now folder) ≡ true }
+        ensures held { option_copied result ≡ option_and_then (held_at self.now) (child_of self.now folder name.now) }
+        ensures table { IsTable self.now }
+    {
+        let _ = &self.nodes;
+        let slot = self.child(folder, name)?;
+        self.held(slot)
+    }
+
+    /// The least slot that is free.
+    pub fn least_free(&self) -> u32
+        requires { nodes_in self.now < length self.now }
+        ensures { IsLeastFree self.now result }
+    {
+        *self.free.first().unwrap()
+    }
+
+    /// What a slot holds.
+    pub fn held(&self, slot: u32) -> Option<&Held>
+        ensures { option_copied result ≡ held_at self.now slot }
+    {
+        match self.nodes.get(slot as usize) {
+            Some(Some(held)) => Some(held),
+            _ => None,
+        }
+    }
+
+    /// Puts a node at its own slot.
+    #[tactic(auto, using(crate::proofs::Tables::totals))]
+    pub fn put(&mut self, alloc: Global, held: Held) -> Result<(), AllocError>
+        requires above_root { 0 < held.node.slot }
+        requires in_table { held.node.slot < length self.old }
+        requires free { held_at self.old held.node.slot ≡ None }
+        requires in_folder { holds_folder (held_at self.old held.node.parent) ≡ true }
+        requires new_name { child_of self.old held.node.parent held.node.name ≡ None }
+        requires fits { IsHeld held.node.slot held }
+        ensures ok { OnOk result (self.new ≡ slice_set self.old held.node.slot (Some held)) }
+        ensures table { OnOk result (IsTable self.old) }
+        ensures err { OnErr result (self.new ≡ self.old) }
+    {
+        let slot = held.node.slot;
+        let name = Bytes::of(alloc, held.node.name.slice())?;
+        add_child(&mut self.children, held.node.parent, name, slot)?;
+        self.free.remove(&slot);
+        self.count += 1;
+        self.pages += pages_of(held.node.length);
+        self.nodes[slot as usize] = Some(held);
+        Ok(())
+    }
+
+    /// Empties the slot of an entry, a folder only where it has no entries.
+    #[tactic(auto, using(crate::proofs::Tables::totals))]
+    pub fn take(&mut self, slot: u32) -> Result<(), AllocError>
+        requires above_root { 0 < slot }
+        requires there { IsSome (held_at self.old slot) }
+        requires bare { (name : List ℕ) → child_of self.old slot name ≡ None }
+        ensures ok { OnOk result (self.new ≡ slice_set self.old slot None) }
+        ensures err { OnErr result (self.new ≡ self.old) }
+    {
+        let Some(held) = held_in(&self.nodes, slot as usize) else {
+            return Ok(());
+        };
+        let count = self.count - 1;
+        let pages = self.pages - pages_of(held.node.length);
+        self.free.insert(slot)?;
+        drop_child(&mut self.children, held.node.parent, &held.node.name);
+        self.count = count;
+        self.pages = pages;
+        self.nodes[slot as usize] = None;
+        Ok(())
+    }
+}
+
+/// What a slot holds.
+fn held_in(nodes: &Vec<Option<Held>>, slot: usize) -> Option<&Held>
+    ensures { option_copied result ≡ held_at nodes.now.items slot }
+{
+    match nodes.get(slot) {
+        Some(Some(held)) => Some(held),
+        _ => None,
+    }
+}
+
+/// How many pages a file of this length takes, its map pages among them.
+fn pages_of(length: u64) -> u64
+    requires { length ≤ longest_file }
+    ensures pages { result ≡ pages_of_length length }
+    ensures few { result ≤ 10945 }
+{
+    let data_pages = length.div_ceil(4096);
+    data_pages + data_pages.div_ceil(113)
+}
