@@ -6,48 +6,52 @@ const LIMITS: Limits = Limits {
     nodes: 16,
 };
 
+/// Entries that are added, and their slots or refusals.
+const ADDS: [(&[u8], Kind, Result<u32, IndexError>); 7] = [
+    (b"/d", Kind::Folder, Ok(1)),
+    (b"/d/a", Kind::File, Ok(2)),
+    (
+        b"/d/a",
+        Kind::Folder,
+        Err(IndexError::Refused(Refusal::Exists)),
+    ),
+    (
+        b"/",
+        Kind::File,
+        Err(IndexError::Refused(Refusal::RootFixed)),
+    ),
+    (
+        b"/e/a",
+        Kind::File,
+        Err(IndexError::Refused(Refusal::NoParent)),
+    ),
+    (
+        b"/d/a/b",
+        Kind::File,
+        Err(IndexError::Refused(Refusal::ParentNotDir)),
+    ),
+    (b"/d/e", Kind::Folder, Ok(3)),
+];
+
+/// Paths, and the slots to which they lead.
+const WALKS: [(&[u8], Result<u32, Refusal>); 6] = [
+    (b"/", Ok(0)),
+    (b"/d", Ok(1)),
+    (b"/d/e", Ok(3)),
+    (b"/d/f", Err(Refusal::NoEntry)),
+    (b"/f/a", Err(Refusal::NoParent)),
+    (b"/d/a/b", Err(Refusal::ParentNotDir)),
+];
+
 #[test]
 fn entries_are_added_and_found(rt: HostRuntime) -> Result<(), Fail> {
     let alloc = rt.alloc();
     let mut index = Index::new(alloc, LIMITS)?;
-    let adds: [(&[u8], Kind, Result<u32, IndexError>); 7] = [
-        (b"/d", Kind::Folder, Ok(1)),
-        (b"/d/a", Kind::File, Ok(2)),
-        (
-            b"/d/a",
-            Kind::Folder,
-            Err(IndexError::Refused(Refusal::Exists)),
-        ),
-        (
-            b"/",
-            Kind::File,
-            Err(IndexError::Refused(Refusal::RootFixed)),
-        ),
-        (
-            b"/e/a",
-            Kind::File,
-            Err(IndexError::Refused(Refusal::NoParent)),
-        ),
-        (
-            b"/d/a/b",
-            Kind::File,
-            Err(IndexError::Refused(Refusal::ParentNotDir)),
-        ),
-        (b"/d/e", Kind::Folder, Ok(3)),
-    ];
-    for (text, kind, due) in adds {
+    for (text, kind, due) in ADDS {
         let path = Path::parse(alloc, text)?;
         assert_eq!(rt; index.add(alloc, &path, kind), due);
     }
-    let walks: [(&[u8], Result<u32, Refusal>); 6] = [
-        (b"/", Ok(0)),
-        (b"/d", Ok(1)),
-        (b"/d/e", Ok(3)),
-        (b"/d/f", Err(Refusal::NoEntry)),
-        (b"/f/a", Err(Refusal::NoParent)),
-        (b"/d/a/b", Err(Refusal::ParentNotDir)),
-    ];
-    for (text, due) in walks {
+    for (text, due) in WALKS {
         assert_eq!(rt; index.walk(&Path::parse(alloc, text)?), due);
     }
     assert_eq!(rt; index.count(), 4);
