@@ -1,27 +1,28 @@
 -- What holds where an operation isn't refused, and of the tree that it then leaves.
-use Rattle.std.proofs.Common.{◌≡◌, ℕ, suc, ◌+◌, ◌-◌, ◌≤◌, Bool, true, false, cond, not, ◌&&◌, nat_lt, List, [], ◌∷◌, ◌++◌, length, take, Option, Some, None, is_some, is_none, refl, sym, ap, ◌∙◌, subst, arith, append_assoc, append-nil}
+use Rattle.std.proofs.Common.{◌≡◌, ℕ, suc, ◌+◌, ◌-◌, ◌≤◌, Bool, true, false, cond, not, ◌&&◌, ◌||◌, nat_lt, List, [], ◌∷◌, ◌++◌, length, take, drop, position, Option, Some, None, is_some, is_none, inl, inr, refl, sym, ap, ◌∙◌, subst, arith, append_assoc, append-nil, length-append}
 use Rattle.std.specs.Option.{option_map}
-use Rattle.std.specs.List.{position_or_len}
-use Rattle.std.specs.Ordering.{is_lt}
-use Rattle.std.proofs.lemmas.Bool.{false≢true}
+use Rattle.std.proofs.lemmas.Bool.{cases_Bool, false≢true}
 use Rattle.std.proofs.lemmas.Bool.Decides.{nat_tests}
-use Rattle.std.proofs.lemmas.List.Sums.{sum_by-insert, prefix_len-le-length}
-use Rattle.std.proofs.lemmas.List.Edits.{length-insert}
 use Rattle.vb_tree.specs.declared.tree.Kind.{Kind}
 use Rattle.vb_tree.specs.declared.tree.Kind.TheVariants.{Folder, File}
 use Rattle.vb_tree.specs.declared.tree.Limits.{Limits}
 use Rattle.vb_tree.specs.declared.tree.TreeEntry.{TreeEntry}
 use Rattle.vb_tree.specs.declared.operation.Op.{Op}
-use Rattle.vb_tree.specs.declared.operation.Op.TheVariants.{Create, Write}
+use Rattle.vb_tree.specs.declared.operation.Op.TheVariants.{Create, MakeDir, Write, Truncate, Rename, Remove, RemoveDir, Read, List as Listing, Stat}
 use Rattle.vb_tree.specs.declared.reply.Refusal.{Refusal}
-use Rattle.vb_tree.specs.Trees.{is_root, entry_at, kind_at, bytes_in, insert_entry, with_bytes_at, pages_of_length, page_count, node_count, parent_of, IsTree, IsWithin}
-use Rattle.vb_tree.specs.Trees.{is_folder}
-use Rattle.vb_tree.specs.Contents.{written_over}
-use Rattle.vb_tree.specs.Refusals.{refuse, refuse_step, refuse_rest, refuse_way, refuse_unless_file, refuse_new, refuse_length, longest_file, refusal_of}
-use Rattle.vb_tree.specs.Operations.{effect_of, reply_unless, tree_after, tree_after_reply}
-use Rattle.vb_path.specs.Paths.{same_path, path_cmp}
-use Rattle.vb_tree.proofs.Lookups.{insert_entry-place}
+use Rattle.vb_tree.specs.declared.reply.Refusal.TheVariants.{NoEntry, NotADir}
+use Rattle.vb_path.specs.Paths.{same_path}
+use Rattle.vb_tree.specs.Trees.{is_root, entry_at, kind_at, bytes_in, is_folder, is_file, has_entries, without, insert_entry, with_bytes_at, pages_of_length, page_count, pages_with, node_count, parent_of, IsTree, IsWithin}
+use Rattle.vb_tree.specs.Contents.{written_over, truncated_to}
+use Rattle.vb_tree.specs.Renames.{is_within}
+use Rattle.vb_tree.specs.Refusals.{refuse, allow, refuse_step, refuse_rest, refuse_way, refuse_unless_file, refuse_unless_folder, refuse_new, refuse_length, refuse_resize, refuse_move, longest_file, refusal_of}
+use Rattle.vb_tree.specs.Operations.{answer_of, effect_of, is_done, reply_unless, tree_after, tree_after_reply}
+use Rattle.vb_tree.proofs.Lookups.{find-position, length-insert_entry, page_count-insert_entry}
+use Rattle.vb_tree.proofs.Sizes.{length-written_over, length-truncated_to, page_count-changed}
 use Rattle.vb_tree.proofs.TreeLaws.{HasFile, IsTree-insert, IsTree-with_bytes_at}
+use Rattle.vb_tree.proofs.Within.{within-parts, within-parent, some_parts, folder-parent, folder-above}
+use Rattle.vb_tree.proofs.Removals.{either_false, no_entries, IsTree-without, sizes-without}
+use Rattle.vb_tree.proofs.RenameLaws.{IsMovable, after_rename, IsTree-after_rename, sizes-after_rename}
 
 -- no refusal means that the test failed, and that nothing after it refused
 pub refuse-none : (bad : Bool) (reason : Refusal) (next : Option Refusal) → refuse bad reason next ≡ None → (bad ≡ false) × (next ≡ None)
@@ -104,35 +105,161 @@ length-with_bytes_at path bytes (e ∷ es) =
     ]
 
 -- a new entry without bytes takes a node and no page
-pub IsWithin-insert : (limits : Limits) (new : TreeEntry) (tree : List TreeEntry) → new.bytes ≡ [] → node_count tree + 1 ≤ limits.nodes → IsWithin limits tree → IsWithin limits (insert_entry new tree)
+IsWithin-insert : (limits : Limits) (new : TreeEntry) (tree : List TreeEntry) → new.bytes ≡ [] → node_count tree + 1 ≤ limits.nodes → IsWithin limits tree → IsWithin limits (insert_entry new tree)
 IsWithin-insert limits new tree empty room is =
-    let place = insert_entry-place new tree in
-    let at = position_or_len (λ e. is_lt (path_cmp new.path e.path)) tree in
-    let count : length (insert_entry new tree) ≡ length tree + 1 = ap length place ∙ length-insert tree at new (prefix_len-le-length (λ e. not (is_lt (path_cmp new.path e.path))) tree) in
-    let pages : page_count (insert_entry new tree) ≡ page_count tree + pages_of_length (length new.bytes) = ap page_count place ∙ sum_by-insert (λ e. pages_of_length (length e.bytes)) tree at new in
     let none : pages_of_length (length new.bytes) ≡ 0 = ap (λ b. pages_of_length (length b)) empty in
-    record { limits_allowed = is.limits_allowed; nodes_within = omega (arith, is.nodes_within); pages_within = omega (arith, is.pages_within) }
+    record {
+      limits_allowed = is.limits_allowed;
+      nodes_within = omega (arith, is.nodes_within, length-insert_entry new tree);
+      pages_within = omega (arith, is.pages_within, page_count-insert_entry new tree);
+    }
+
+-- fewer entries and fewer pages keep to the limits
+IsWithin-fewer : (limits : Limits) (before after : List TreeEntry) → (length after ≤ length before) × (page_count after ≤ page_count before) → IsWithin limits before → IsWithin limits after
+IsWithin-fewer limits before after few is =
+    record {
+      limits_allowed = is.limits_allowed;
+      nodes_within = omega (arith, is.nodes_within, few.0);
+      pages_within = omega (arith, is.pages_within, few.1);
+    }
+
+-- where a file stands
+place_found : (path : List (List ℕ)) (tree : List TreeEntry) → HasFile (entry_at path tree) → (i : ℕ) × (position (λ (e : TreeEntry). same_path path e.path) tree ≡ Some i)
+place_found path tree h =
+    found (position (λ (e : TreeEntry). same_path path e.path) tree) refl where
+      found : (o : Option ℕ) → position (λ (e : TreeEntry). same_path path e.path) tree ≡ o → (i : ℕ) × (position (λ (e : TreeEntry). same_path path e.path) tree ≡ Some i)
+      found None e = absurd (subst HasFile (find-position (λ (x : TreeEntry). same_path path x.path) tree e) h)
+      found (Some i) e = (i, e)
+
+-- other bytes of a file keep to the limits, where their length isn't refused
+IsWithin-with_bytes_at : (limits : Limits) (path : List (List ℕ)) (tree : List TreeEntry) (bytes : List ℕ) (len : ℕ) → length bytes ≡ len → HasFile (entry_at path tree) → refuse_resize limits tree path len ≡ None → IsWithin limits tree → IsWithin limits (with_bytes_at path bytes tree)
+IsWithin-with_bytes_at limits path tree bytes len e file h is =
+    let place = place_found path tree file in
+    let count : page_count (with_bytes_at path bytes tree) ≡ pages_with path len tree =
+    page_count-changed path tree bytes place.0 (record { path = []; kind = File; bytes = [] }) place.1 ∙ ap (λ n. pages_with path n tree) e in
+    let room : pages_with path len tree ≤ limits.pages = refuse_length-none limits (page_count tree) (pages_with path len tree) len h is.pages_within in
+    record {
+      limits_allowed = is.limits_allowed;
+      nodes_within = omega (arith, is.nodes_within, length-with_bytes_at path bytes tree);
+      pages_within = subst (λ n. n ≤ limits.pages) (sym count) room;
+    }
+
+-- a file that may be removed is no folder
+refuse_unless_file-folder : (tree : List TreeEntry) (path : List (List ℕ)) (next : Option Refusal) → refuse_unless_file tree path next ≡ None → is_folder (kind_at path tree) ≡ false
+refuse_unless_file-folder tree path next h =
+    let way = refuse_way-none tree path _ h in
+    let there = refuse-none _ _ _ way.0 in
+    (refuse-none _ _ _ there.1).0
+
+-- a folder that may be removed has no entries
+refuse_unless_folder-none : (tree : List TreeEntry) (path : List (List ℕ)) (next : Option Refusal) → refuse_unless_folder tree path next ≡ None → next ≡ None
+refuse_unless_folder-none tree path next h =
+    let way = refuse_way-none tree path _ h in
+    let there = refuse-none (is_none (kind_at path tree)) NoEntry (refuse (is_file (kind_at path tree)) NotADir next) way.0 in
+    (refuse-none (is_file (kind_at path tree)) NotADir next there.1).1
+
+allow-none : (test : Bool) (next : Option Refusal) → allow test next ≡ None → test ≡ false → next ≡ None
+allow-none true next h f = absurd (false≢true (sym f))
+allow-none false next h f = h
+
+-- a target that is a folder is refused
+folder_refused : (file : Bool) (kind : Option Kind) → (is_some kind && not (file && is_file kind)) ≡ false → kind ≡ Some Folder → ⊥
+folder_refused true kind h e = false≢true (sym (subst (λ k. (is_some k && not (true && is_file k)) ≡ false) e h))
+folder_refused false kind h e = false≢true (sym (subst (λ k. (is_some k && not (false && is_file k)) ≡ false) e h))
+
+-- what has a folder below it is a folder
+folder-within : (tree : List TreeEntry) (top path : List (List ℕ)) → IsTree tree → is_within top path ≡ true → kind_at path tree ≡ Some Folder → kind_at top tree ≡ Some Folder
+folder-within tree top path is h k = by_rest (drop (length top) path) (within-parts top path h) where
+  by_rest : (rest : List (List ℕ)) → path ≡ top ++ rest → kind_at top tree ≡ Some Folder
+  by_rest [] e = subst (λ p. kind_at p tree ≡ Some Folder) (e ∙ append-nil top) k
+  by_rest (x ∷ xs) e =
+      let here : kind_at (top ++ x ∷ xs) tree ≡ Some Folder = subst (λ p. kind_at p tree ≡ Some Folder) e k in
+      let below : is_root (top ++ x ∷ xs) ≡ false = some_parts (top ++ x ∷ xs) (omega (arith, length-append top (x ∷ xs))) in
+      folder-above tree top (x ∷ xs) is (omega arith) (folder-parent tree (top ++ x ∷ xs) Folder is below here)
+
+-- what isn't refused may move
+IsMovable-allowed : (limits : Limits) (tree : List TreeEntry) (source target : List (List ℕ)) → refusal_of limits tree (Rename source target) ≡ None → same_path source target ≡ false → IsTree tree → IsMovable source target tree
+IsMovable-allowed limits tree source target h differ is =
+    let root = refuse-none (is_root source || is_root target) _ _ h in
+    let roots = either_false (is_root source) (is_root target) root.0 in
+    let way = refuse_way-none tree source _ root.1 in
+    let there = refuse-none (is_none (kind_at source tree)) _ _ way.0 in
+    let move : refuse_move tree source target ≡ None = allow-none (same_path source target) (refuse_move tree source target) there.1 differ in
+    let into = refuse-none (is_folder (kind_at source tree) && is_within source target) _ _ move in
+    let up = refuse_way-none tree target _ into.1 in
+    let free = refuse-none (is_some (kind_at target tree) && not (is_file (kind_at source tree) && is_file (kind_at target tree))) _ _ up.0 in
+    record {
+      is_tree = is;
+      source_below = roots.0;
+      target_below = roots.1;
+      target_free = folder_refused (is_file (kind_at source tree)) (kind_at target tree) free.0;
+      parent_there = up.1;
+      parent_stays = elim (cases_Bool (is_within source (parent_of target))) [
+        | inr s ↦ s
+        | inl s ↦ absurd (
+            let folder = folder-within tree source (parent_of target) is s up.1 in
+            false≢true (sym into.0 ∙ ap (λ k. is_folder k && is_within source target) folder ∙ within-parent source target s))
+      ];
+    }
 
 -- an operation that isn't refused leaves a tree
-pub IsTree-effect : (limits : Limits) (tree : List TreeEntry) (op : Op) → refusal_of limits tree op ≡ None → IsTree tree → IsTree (effect_of tree op)
+IsTree-effect : (limits : Limits) (tree : List TreeEntry) (op : Op) → refusal_of limits tree op ≡ None → IsTree tree → IsTree (effect_of tree op)
 IsTree-effect limits tree (Create path) h is =
     let free = refuse_new-none limits tree path h in
     IsTree-insert (record { path = path; kind = File; bytes = [] }) tree free.nothing_there
     (record { below_root = free.below_root; parent_there = free.parent_there; folder_empty = λ e. refl }) is
+IsTree-effect limits tree (MakeDir path) h is =
+    let free = refuse_new-none limits tree path h in
+    IsTree-insert (record { path = path; kind = Folder; bytes = [] }) tree free.nothing_there
+    (record { below_root = free.below_root; parent_there = free.parent_there; folder_empty = λ e. refl }) is
 IsTree-effect limits tree (Write path offset bytes) h is =
     IsTree-with_bytes_at path _ tree (refuse_unless_file-none tree path _ h).0 is
+IsTree-effect limits tree (Truncate path len) h is =
+    IsTree-with_bytes_at path _ tree (refuse_unless_file-none tree path _ h).0 is
+IsTree-effect limits tree (Rename source target) h is =
+    elim (cases_Bool (same_path source target)) [
+      | inl s ↦ subst (λ v. IsTree (cond v tree (after_rename source target tree))) (sym s) is
+      | inr s ↦ subst (λ v. IsTree (cond v tree (after_rename source target tree))) (sym s) (IsTree-after_rename source target tree (IsMovable-allowed limits tree source target h s is))
+    ]
+IsTree-effect limits tree (Remove path) h is =
+    let folder = refuse_unless_file-folder tree path None (refuse-none (is_root path) _ _ h).1 in
+    IsTree-without path tree (no_entries tree path tree folder is.all_belong) is
+IsTree-effect limits tree (RemoveDir path) h is =
+    let used = refuse_unless_folder-none tree path _ (refuse-none (is_root path) _ _ h).1 in
+    IsTree-without path tree (refuse-none (has_entries path tree) _ _ used).0 is
+IsTree-effect limits tree (Read path offset len) h is = is
+IsTree-effect limits tree (Listing path) h is = is
+IsTree-effect limits tree (Stat path) h is = is
 
 -- an operation that isn't refused keeps to the limits
-pub IsWithin-effect : (limits : Limits) (tree : List TreeEntry) (op : Op) → refusal_of limits tree op ≡ None → IsWithin limits tree → IsWithin limits (effect_of tree op)
+IsWithin-effect : (limits : Limits) (tree : List TreeEntry) (op : Op) → refusal_of limits tree op ≡ None → IsWithin limits tree → IsWithin limits (effect_of tree op)
 IsWithin-effect limits tree (Create path) h is =
     IsWithin-insert limits (record { path = path; kind = File; bytes = [] }) tree refl (refuse_new-none limits tree path h).room is
+IsWithin-effect limits tree (MakeDir path) h is =
+    IsWithin-insert limits (record { path = path; kind = Folder; bytes = [] }) tree refl (refuse_new-none limits tree path h).room is
 IsWithin-effect limits tree (Write path offset bytes) h is =
-    let after = with_bytes_at path (written_over offset bytes (bytes_in (entry_at path tree))) tree in
-    let pages = refuse_length-none limits (page_count tree) (page_count after) _ (refuse_unless_file-none tree path _ h).1 is.pages_within in
-    record { limits_allowed = is.limits_allowed; nodes_within = omega (arith, is.nodes_within, length-with_bytes_at path (written_over offset bytes (bytes_in (entry_at path tree))) tree); pages_within = pages }
+    let file = refuse_unless_file-none tree path _ h in
+    IsWithin-with_bytes_at limits path tree (written_over offset bytes (bytes_in (entry_at path tree))) _ (length-written_over offset bytes (bytes_in (entry_at path tree))) file.0 file.1 is
+IsWithin-effect limits tree (Truncate path len) h is =
+    let file = refuse_unless_file-none tree path _ h in
+    IsWithin-with_bytes_at limits path tree (truncated_to len (bytes_in (entry_at path tree))) len (length-truncated_to len (bytes_in (entry_at path tree))) file.0 file.1 is
+IsWithin-effect limits tree (Rename source target) h is =
+    elim (same_path source target) as (λ v. IsWithin limits (cond v tree (after_rename source target tree))) [
+      | true ↦ is
+      | false ↦ IsWithin-fewer limits tree (after_rename source target tree) (sizes-after_rename source target tree) is
+    ]
+IsWithin-effect limits tree (Remove path) h is = IsWithin-fewer limits tree (without path tree) (sizes-without path tree) is
+IsWithin-effect limits tree (RemoveDir path) h is = IsWithin-fewer limits tree (without path tree) (sizes-without path tree) is
+IsWithin-effect limits tree (Read path offset len) h is = is
+IsWithin-effect limits tree (Listing path) h is = is
+IsWithin-effect limits tree (Stat path) h is = is
 
-after_refusal : (P : List TreeEntry → Type 0) (tree : List TreeEntry) (op : Op) (refusal : Option Refusal) → P tree → (refusal ≡ None → P (effect_of tree op)) → P (tree_after_reply tree op (reply_unless refusal))
-after_refusal P tree op None before after = after refl
+after_answer : (P : List TreeEntry → Type 0) (tree : List TreeEntry) (op : Op) (done : Bool) → P tree → P (effect_of tree op) → P (cond done (effect_of tree op) tree)
+after_answer P tree op true before after = after
+after_answer P tree op false before after = before
+
+after_refusal : (P : List TreeEntry → Type 0) (tree : List TreeEntry) (op : Op) (refusal : Option Refusal) → P tree → (refusal ≡ None → P (effect_of tree op)) → P (tree_after_reply tree op (reply_unless refusal (answer_of tree op)))
+after_refusal P tree op None before after = after_answer P tree op (is_done (answer_of tree op)) before (after refl)
 after_refusal P tree op (Some reason) before after = before
 
 -- an operation leaves a tree
@@ -144,12 +271,5 @@ IsTree-tree_after limits tree op is =
 pub IsWithin-tree_after : (limits : Limits) (tree : List TreeEntry) (op : Op) → IsWithin limits tree → IsWithin limits (tree_after limits tree op)
 IsWithin-tree_after limits tree op is =
     after_refusal (IsWithin limits) tree op (refusal_of limits tree op) is (λ h. IsWithin-effect limits tree op h is)
-
--- an operation that isn't refused leaves its effect, and any other leaves the tree
-pub tree_after-allowed : (limits : Limits) (tree : List TreeEntry) (op : Op) → refusal_of limits tree op ≡ None → tree_after limits tree op ≡ effect_of tree op
-tree_after-allowed limits tree op h = ap (λ r. tree_after_reply tree op (reply_unless r)) h
-
-pub tree_after-refused : (limits : Limits) (tree : List TreeEntry) (op : Op) (reason : Refusal) → refusal_of limits tree op ≡ Some reason → tree_after limits tree op ≡ tree
-tree_after-refused limits tree op reason h = ap (λ r. tree_after_reply tree op (reply_unless r)) h
 
 pub ruleset keeps = (IsTree-tree_after, IsWithin-tree_after)

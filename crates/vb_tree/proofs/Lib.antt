@@ -1,6 +1,14 @@
 pub mod Allowed
 pub mod Filled
 pub mod Lookups
+pub mod MovedEntries
+pub mod MovedPaths
+pub mod NameOrder
+pub mod ReadMoved
+pub mod Removals
+pub mod Replies
+pub mod RenameLaws
 pub mod Sizes
 pub mod TreeLaws
 pub mod Ways
+pub mod Within

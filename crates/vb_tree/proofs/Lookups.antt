@@ -3,14 +3,15 @@ use Rattle.std.proofs.Common.{◌≡◌, ℕ, ◌+◌, ◌<◌, ◌≤◌, Bool,
 use Rattle.std.specs.List.{position_or_len, insert, find}
 use Rattle.std.specs.Ordering.{is_lt}
 use Rattle.std.proofs.lemmas.Bool.Decides.{nat_tests}
-use Rattle.std.proofs.lemmas.List.Sums.{prefix_len-le-length}
+use Rattle.std.proofs.lemmas.List.Sums.{prefix_len-le-length, sum_by-insert}
+use Rattle.std.proofs.lemmas.List.Edits.{length-insert}
 use Rattle.vb_tree.specs.declared.tree.TreeEntry.{TreeEntry}
 use Rattle.vb_tree.specs.declared.tree.Kind.TheVariants.{Folder}
 use Rattle.std.specs.Option.{option_map}
 use Rattle.std.proofs.lemmas.List.Folds.{find_at}
 use Rattle.std.proofs.lemmas.Option.{slice_get_past}
 use Rattle.vb_path.specs.Paths.{same_path, path_cmp}
-use Rattle.vb_tree.specs.Trees.{is_root, kind_at, bytes_in, entry_at, insert_entry, with_bytes_at}
+use Rattle.vb_tree.specs.Trees.{is_root, kind_at, length_at, bytes_in, entry_at, insert_entry, with_bytes_at, pages_of_length, page_count}
 
 -- the first place that passes, or the length
 pub unwrap_or-position : {X : Type 0} (p : X → Bool) (xs : List X) → (unwrap_or (position p xs) (length xs) ≡ position_or_len p xs) × (position_or_len p xs ≤ length xs)
@@ -25,6 +26,18 @@ insert_entry-place new (e ∷ es) =
       | true ↦ refl
       | false ↦ rw one-add (ap (λ t. e ∷ t) (insert_entry-place new es))
     ]
+
+-- one entry more
+pub length-insert_entry : (new : TreeEntry) (tree : List TreeEntry) → length (insert_entry new tree) ≡ length tree + 1
+length-insert_entry new tree =
+    let at = position_or_len (λ e. is_lt (path_cmp new.path e.path)) tree in
+    ap length (insert_entry-place new tree) ∙ length-insert tree at new (prefix_len-le-length (λ e. not (is_lt (path_cmp new.path e.path))) tree)
+
+-- its pages more
+pub page_count-insert_entry : (new : TreeEntry) (tree : List TreeEntry) → page_count (insert_entry new tree) ≡ page_count tree + pages_of_length (length new.bytes)
+page_count-insert_entry new tree =
+    let at = position_or_len (λ e. is_lt (path_cmp new.path e.path)) tree in
+    ap page_count (insert_entry-place new tree) ∙ sum_by-insert (λ e. pages_of_length (length e.bytes)) tree at new
 
 -- what `position` answers is the first place
 position-is : {X : Type 0} (p : X → Bool) (xs : List X) (i : ℕ) → position p xs ≡ Some i → (i ≡ position_or_len p xs) × (i < length xs)
@@ -51,7 +64,7 @@ entry_at-place path tree i d h =
     subst (λ j. (i < length tree) × (entry_at path tree ≡ Some (get_or tree j d)) × ((bytes : List ℕ) → with_bytes_at path bytes tree ≡ set tree j (record (get_or tree j d) { bytes = bytes }))) (sym at.0) (at.1, here.0, here.1)
 
 -- the first that passes is at the first place, or nowhere
-find-position : {X : Type 0} (p : X → Bool) (xs : List X) → position p xs ≡ None → find p xs ≡ None
+pub find-position : {X : Type 0} (p : X → Bool) (xs : List X) → position p xs ≡ None → find p xs ≡ None
 find-position p xs h =
     let le = prefix_len-le-length (λ x. not (p x)) xs in
     find_at p xs ∙ slice_get_past xs (position_or_len p xs) (grind (arith, nat_tests))
@@ -70,6 +83,10 @@ kind_at-none path tree r h =
 -- the bytes at the place of a path
 pub bytes_in-place : (path : List (List ℕ)) (tree : List TreeEntry) (i : ℕ) (d : TreeEntry) → position (λ e. same_path path e.path) tree ≡ Some i → bytes_in (entry_at path tree) ≡ (get_or tree i d).bytes
 bytes_in-place path tree i d h = let here = entry_at-place path tree i d h in ap bytes_in here.1
+
+-- the length at the place of a path
+pub length_at-place : (path : List (List ℕ)) (tree : List TreeEntry) (i : ℕ) (d : TreeEntry) → position (λ e. same_path path e.path) tree ≡ Some i → length_at path tree ≡ length (get_or tree i d).bytes
+length_at-place path tree i d h = ap length (bytes_in-place path tree i d h)
 
 -- a change of the bytes at the place of a path
 pub with_bytes_at-place : (change : List ℕ → List ℕ) (path : List (List ℕ)) (tree : List TreeEntry) (i : ℕ) (d : TreeEntry) → position (λ e. same_path path e.path) tree ≡ Some i → set tree i (record (get_or tree i d) { bytes = change (get_or tree i d).bytes }) ≡ with_bytes_at path (change (bytes_in (entry_at path tree))) tree

@@ -47,7 +47,7 @@ entry_at-without q path (e ∷ es) h =
           ∙ ap (λ t. cond (same_path q e.path) (Some e) t) (entry_at-without q path es h)
     ]
 
-either_false : (a b : Bool) → (a || b) ≡ false → (a ≡ false) × (b ≡ false)
+pub either_false : (a b : Bool) → (a || b) ≡ false → (a ≡ false) × (b ≡ false)
 either_false true b h = absurd (false≢true (sym h))
 either_false false b h = (refl, h)
 

@@ -1,8 +1,8 @@
 -- What a rename leaves of a tree.
 use Rattle.std.proofs.Common.{◌≡◌, ℕ, suc, ◌+◌, ◌-◌, ◌<◌, ◌≤◌, Bool, true, false, cond, not, ◌&&◌, List, [], ◌∷◌, ◌++◌, length, take, drop, Option, Some, None, inl, inr, refl, sym, ap, ◌∙◌, subst, arith, length-append, append-nil}
 use Rattle.std.specs.Option.{option_map}
-use Rattle.std.specs.Ordering.{is_lt}
-use Rattle.std.specs.declared.cmp.Ordering.TheVariants.{Less}
+use Rattle.std.specs.Ordering.{ordering_reverse}
+use Rattle.std.specs.declared.cmp.Ordering.TheVariants.{Less, Greater}
 use Rattle.std.specs.List.{sum_by}
 use Rattle.std.proofs.Math.Seq.{drop-append_seam}
 use Rattle.std.proofs.lemmas.List.{append_cancel_left}
@@ -16,6 +16,8 @@ use Rattle.vb_path.proofs.PathLaws.{same_path-Decides, path_cmp-total}
 use Rattle.vb_tree.specs.Trees.{is_root, entry_at, kind_at, insert_entry, without, parent_of, pages_of_length, page_count, AllAfter, AreInOrder, BelongsIn, AllBelongIn, IsTree}
 use Rattle.vb_tree.specs.Renames.{is_within, moved_path, path_after, moved, in_path_order}
 use Rattle.vb_tree.proofs.TreeLaws.{AreInOrder-insert, entry_at-insert, entry_at-inserted, AllBelongIn-insert}
+use Rattle.vb_tree.proofs.Lookups.{length-insert_entry, page_count-insert_entry}
+use Rattle.vb_tree.proofs.Removals.{sizes-without}
 use Rattle.vb_tree.proofs.Within.{within-parts, within-append, within-parent, parent_of-append, not_root, some_parts, folder-parent, folder-above}
 
 -- ---- entries put into path order
@@ -153,6 +155,13 @@ none_found : (o : Option TreeEntry) → kind_found o ≡ None → o ≡ None
 none_found None h = refl
 none_found (Some e) h = absurd cc
 
+less_greater : Less ≡ Greater → ⊥
+less_greater e = cc
+
+-- no path is before itself
+not_before : (p : List (List ℕ)) → path_cmp p p ≡ Less → ⊥
+not_before p h = less_greater (sym h ∙ path_cmp-total.antisymm p p ∙ ap ordering_reverse h)
+
 entry_at-after : (p : List (List ℕ)) (es : List TreeEntry) → AllAfter p es → entry_at p es ≡ None
 entry_at-after p [] all = refl
 entry_at-after p (e ∷ es) all =
@@ -178,7 +187,7 @@ AreApart-moved source target tree (e ∷ es) m all order =
 
 -- ---- the tree after a rename
 
-abbrev after_rename : List (List ℕ) → List (List ℕ) → List TreeEntry → List TreeEntry
+abbrev pub after_rename : List (List ℕ) → List (List ℕ) → List TreeEntry → List TreeEntry
 after_rename source target tree = in_path_order (moved source target (without target tree))
 
 below-after : (source target path : List (List ℕ)) → is_root target ≡ false → is_root path ≡ false → is_root (path_after source target path) ≡ false
@@ -212,7 +221,8 @@ folder-moved source target tree p m h =
     ] where
       root_is : (x : List (List ℕ)) → is_root x ≡ true → x ≡ []
       root_is [] e = refl
-      root_is (y ∷ ys) e = absurd (false≢true e)
+      root_is (y ∷ ys) e = absurd (false≢true (sym (some_parts (y ∷ ys) (omega arith)) ∙ e))
+
       root_out : (x : List (List ℕ)) → is_root x ≡ false → is_within x [] ≡ false
       root_out [] e = absurd (false≢true (sym e))
       root_out (y ∷ ys) e = refl
@@ -245,11 +255,14 @@ AllBelongIn-moved source target tree (e ∷ es) m all =
     let more = AllBelongIn-moved source target tree es m all.1 in
     elim (same_path target e.path) as (λ v. AllBelongIn (after_rename source target tree) (moved source target (cond (not v) (e ∷ without target es) (without target es)))) [
       | true ↦ more
-      | false ↦ (record {
+      | false ↦ (
+        record {
           below_root = below-after source target e.path m.target_below all.0.below_root;
           parent_there = parent-after source target tree e.path m all.0.parent_there;
           folder_empty = all.0.folder_empty;
-        }, more)
+        },
+        more,
+      )
     ]
 
 -- a rename leaves a tree
@@ -259,3 +272,32 @@ IsTree-after_rename source target tree m =
       in_order = AreInOrder-ordered (moved source target (without target tree)) (AreApart-moved source target tree tree m m.is_tree.all_belong m.is_tree.in_order);
       all_belong = AllBelongIn-ordered (after_rename source target tree) (moved source target (without target tree)) (AllBelongIn-moved source target tree tree m m.is_tree.all_belong);
     }
+
+-- ---- sizes
+
+sizes-ordered : (es : List TreeEntry) → (length (in_path_order es) ≡ length es) × (page_count (in_path_order es) ≡ page_count es)
+sizes-ordered [] = (refl, refl)
+sizes-ordered (e ∷ es) =
+    let more = sizes-ordered es in
+    let f : TreeEntry → ℕ = λ x. pages_of_length (length x.bytes) in
+    let one : sum_by f (e ∷ es) ≡ f e + sum_by f es = sum_by-cons f e es in
+    let put : page_count (in_path_order (e ∷ es)) ≡ page_count (in_path_order es) + f e = page_count-insert_entry e (in_path_order es) in
+    (omega (arith, more.0, length-insert_entry e (in_path_order es)), omega (arith, more.1, put, one))
+
+sizes-moved : (source target : List (List ℕ)) (es : List TreeEntry) → (length (moved source target es) ≡ length es) × (page_count (moved source target es) ≡ page_count es)
+sizes-moved source target [] = (refl, refl)
+sizes-moved source target (e ∷ es) =
+    let more = sizes-moved source target es in
+    let f : TreeEntry → ℕ = λ x. pages_of_length (length x.bytes) in
+    let e' : TreeEntry = record e { path = path_after source target e.path } in
+    let one : sum_by f (e ∷ es) ≡ f e + sum_by f es = sum_by-cons f e es in
+    let put : sum_by f (e' ∷ moved source target es) ≡ f e' + sum_by f (moved source target es) = sum_by-cons f e' (moved source target es) in
+    (omega (arith, more.0), put ∙ ap (λ n. f e + n) more.1 ∙ sym one)
+
+-- a rename adds no entries and no pages
+pub sizes-after_rename : (source target : List (List ℕ)) (tree : List TreeEntry) → (length (after_rename source target tree) ≤ length tree) × (page_count (after_rename source target tree) ≤ page_count tree)
+sizes-after_rename source target tree =
+    let kept = sizes-without target tree in
+    let put = sizes-moved source target (without target tree) in
+    let all = sizes-ordered (moved source target (without target tree)) in
+    (omega (arith, kept.0, put.0, all.0), omega (arith, kept.1, put.1, all.1))

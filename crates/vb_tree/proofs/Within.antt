@@ -1,5 +1,7 @@
 -- Paths at and below a path, and what stands above an entry of a tree.
-use Rattle.std.proofs.Common.{◌≡◌, ℕ, suc, ◌+◌, ◌-◌, ◌<◌, ◌≤◌, Bool, true, false, cond, List, [], ◌∷◌, ◌++◌, length, take, drop, Option, Some, None, inl, inr, refl, sym, ap, ◌∙◌, subst, arith, length-append, append_assoc, append-nil, take-append-drop, length-take}
+use Rattle.std.proofs.Common.{◌≡◌, ℕ, zero, suc, ◌+◌, ◌-◌, ◌<◌, ◌≤◌, Bool, true, false, cond, List, [], ◌∷◌, ◌++◌, length, take, drop, Option, Some, None, inl, inr, refl, sym, ap, ◌∙◌, subst, arith, length-append, append_assoc, append-nil, length-take}
+use Rattle.std.proofs.lemmas.List.{take-append-drop}
+use Rattle.std.proofs.lemmas.Bool.Decides.{eqb_tells}
 use Rattle.std.specs.Option.{option_map}
 use Rattle.std.proofs.Math.Seq.{take-append_seam, take-append-add, drop-append_seam}
 use Rattle.std.proofs.lemmas.Bool.{cases_Bool, false≢true}
@@ -47,7 +49,7 @@ not_root (x ∷ xs) h = omega arith
 
 pub some_parts : (path : List (List ℕ)) → 0 < length path → is_root path ≡ false
 some_parts [] h = absurd (omega arith)
-some_parts (x ∷ xs) h = refl
+some_parts (x ∷ xs) h = elim (eqb_tells (length (x ∷ xs)) 0) [ inl w ↦ absurd (omega (arith, w.1)) | inr w ↦ w.0 ]
 
 -- an entry that was found belongs there
 found_belongs : (tree es : List TreeEntry) (path : List (List ℕ)) (e : TreeEntry) → AllBelongIn tree es → entry_at path es ≡ Some e → BelongsIn tree e × (path ≡ e.path)
@@ -74,7 +76,7 @@ folder-parent tree path k is below h =
     subst (λ p. kind_at (parent_of p) tree ≡ Some Folder) (sym b.1) b.0.parent_there
 
 above : (tree : List TreeEntry) → IsTree tree → (n : ℕ) (top rest : List (List ℕ)) → length rest ≡ suc n → kind_at (parent_of (top ++ rest)) tree ≡ Some Folder → kind_at top tree ≡ Some Folder
-above tree is 0 top rest e h =
+above tree is zero top rest e h =
     let one : length rest - 1 ≡ 0 = omega arith in
     let same : parent_of (top ++ rest) ≡ top = parent_of-append top rest (omega arith) ∙ ap (λ k. top ++ take k rest) one ∙ append-nil top in
     subst (λ p. kind_at p tree ≡ Some Folder) same h

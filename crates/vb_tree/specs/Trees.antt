@@ -1,7 +1,8 @@
 -- Trees: their entries, what stands where, and how much they take.
 use Rattle.std.specs.Prelude.{◌≡◌, ℕ, ◌+◌, ◌-◌, ◌/◌, ◌≤◌, ◌==◌, Bool, true, false, not, ◌&&◌, if◌then◌else◌, List, [], ◌∷◌, length, take, get_or, map, Option, Some, None}
 use Rattle.std.specs.Option.{option_map}
-use Rattle.std.specs.Ordering.{is_lt}
+use Rattle.std.specs.Ordering.{is_lt, nat_cmp}
+use Rattle.std.specs.Cmp.Lexicographic.{slice_cmp}
 use Rattle.std.specs.declared.cmp.Ordering.TheVariants.{Less}
 use Rattle.std.specs.List.{find, filter, list_any, sum_by}
 use Rattle.vb_tree.specs.declared.tree.Kind.{Kind}
@@ -140,3 +141,13 @@ AllBelongIn tree (e ∷ es) = BelongsIn tree e × AllBelongIn tree es
 pub record IsTree (tree : List TreeEntry) : Type 0 where
   pub in_order : AreInOrder tree
   pub all_belong : AllBelongIn tree tree
+
+-- each of these names comes after a name, by bytes
+abbrev pub AllNamesAfter : List ℕ → List (List ℕ) → Type 0
+AllNamesAfter name [] = Unit {0}
+AllNamesAfter name (n ∷ ns) = (slice_cmp nat_cmp name n ≡ Less) × AllNamesAfter name ns
+
+-- the names stand strictly in byte order
+abbrev pub AreNamesInOrder : List (List ℕ) → Type 0
+AreNamesInOrder [] = Unit {0}
+AreNamesInOrder (n ∷ ns) = AllNamesAfter n ns × AreNamesInOrder ns

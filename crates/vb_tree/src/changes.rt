@@ -144,11 +144,13 @@ pub(crate) fn remove_file(entries: &mut Vec<TreeEntry>, path: &[Bytes]) -> Reply
     ensures tree { (limits : Limits)
         → entries.new.items ≡ tree_after limits entries.old.items (Op.Remove path.now) }
 {
-    if let Err(reason) = check_removal(entries, path) {
-        return Reply::Refused(reason);
+    match check_removal(entries, path) {
+        Err(reason) => Reply::Refused(reason),
+        Ok(()) => {
+            remove(entries, path);
+            Reply::Done
+        }
     }
-    remove(entries, path);
-    Reply::Done
 }
 
 /// A folder may be removed.
@@ -173,9 +175,11 @@ pub(crate) fn remove_dir(entries: &mut Vec<TreeEntry>, path: &[Bytes]) -> Reply
     ensures tree { (limits : Limits)
         → entries.new.items ≡ tree_after limits entries.old.items (Op.RemoveDir path.now) }
 {
-    if let Err(reason) = check_dir_removal(entries, path) {
-        return Reply::Refused(reason);
+    match check_dir_removal(entries, path) {
+        Err(reason) => Reply::Refused(reason),
+        Ok(()) => {
+            remove(entries, path);
+            Reply::Done
+        }
     }
-    remove(entries, path);
-    Reply::Done
 }

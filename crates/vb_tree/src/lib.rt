@@ -17,7 +17,7 @@ mod reply;
 mod room;
 mod tree;
 
-pub use laws::operations_keep_trees;
+pub use laws::{names_are_in_order, operations_keep_trees};
 pub use operation::Op;
 pub use plain::Plain;
 pub use reply::{Refusal, Reply};

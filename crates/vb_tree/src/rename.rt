@@ -1,9 +1,9 @@
 // A rename: its checks, and the entries at their new paths.
-ghost use Rattle.std.specs.Prelude.{◌≡◌, Some, IfOk, OnOk, OnErr};
+ghost use Rattle.std.specs.Prelude.{◌≡◌, false, Some, IfOk, OnOk, OnErr};
 ghost use Rattle.std.specs.Result.{result_err};
 ghost use Rattle.vb_tree.specs.declared.operation.Op.{Op};
 ghost use Rattle.vb_tree.specs.declared.tree.Limits.{Limits};
-ghost use Rattle.vb_tree.specs.Trees.{kind_at, without};
+ghost use Rattle.vb_tree.specs.Trees.{is_root, kind_at, without};
 ghost use Rattle.vb_tree.specs.Refusals.{refuse_move, refusal_of};
 ghost use Rattle.vb_tree.specs.Renames.{makes_deep, moved, in_path_order, renamed};
 ghost use Rattle.vb_tree.specs.Operations.{reply_of, tree_after};
@@ -16,11 +16,16 @@ use std::alloc::{AllocError, Global};
 
 /// Whether an entry that moves would have a path that is too deep.
 fn makes_too_deep(entries: &[TreeEntry], source: &Path, target: &Path) -> bool
+    requires source_in { is_root source.now ≡ false }
+    requires target_in { is_root target.now ≡ false }
     ensures { result ≡ makes_deep source.now target.now entries.now }
 {
-    entries
-        .iter()
-        .any(|entry| is_too_deep(&entry.path, source, target))
+    for entry in entries {
+        if is_too_deep(&entry.path, source, target) {
+            return true;
+        }
+    }
+    false
 }
 
 /// What stands at the source may move to the target.
@@ -30,7 +35,9 @@ fn check_move(
     source: &Path,
     target: &Path,
 ) -> Result<(), Refusal>
-    requires { kind_at source.now entries.now ≡ Some kind }
+    requires kind_in { kind_at source.now entries.now ≡ Some kind }
+    requires source_in { is_root source.now ≡ false }
+    requires target_in { is_root target.now ≡ false }
     ensures { refuse_move entries.now source.now target.now ≡ result_err result }
 {
     if kind == Kind::Folder && is_within(source.parts(), target.parts()) {
@@ -49,8 +56,10 @@ fn check_move(
 
 /// The source may be renamed to the target.
 fn check_rename(entries: &[TreeEntry], source: &Path, target: &Path) -> Result<(), Refusal>
-    ensures { (limits : Limits)
+    ensures refused { (limits : Limits)
         → refusal_of limits entries.now (Op.Rename source.now target.now) ≡ result_err result }
+    ensures source { OnOk result (is_root source.now ≡ false) }
+    ensures target { OnOk result (is_root target.now ≡ false) }
 {
     if source.parts().is_empty() || target.parts().is_empty() {
         return Err(Refusal::RootFixed);
@@ -69,6 +78,8 @@ fn moved_entries(
     source: &Path,
     target: &Path,
 ) -> Result<Vec<TreeEntry>, AllocError>
+    requires source_in { is_root source.now ≡ false }
+    requires target_in { is_root target.now ≡ false }
     ensures { IfOk result (λ after. after.items
         ≡ in_path_order (moved source.now target.now (without target.now entries.now))) }
 {
@@ -91,6 +102,8 @@ fn move_entries(
     source: &Path,
     target: &Path,
 ) -> Result<(), AllocError>
+    requires source_in { is_root source.now ≡ false }
+    requires target_in { is_root target.now ≡ false }
     ensures ok { OnOk result (entries.new.items ≡ renamed source.now target.now entries.old.items) }
     ensures err { OnErr result (entries.new.items ≡ entries.old.items) }
 {
@@ -114,9 +127,11 @@ pub(crate) fn rename(
         (entries.new.items ≡ tree_after limits entries.old.items (Op.Rename source.now target.now)) }
     ensures err { OnErr result (entries.new.items ≡ entries.old.items) }
 {
-    if let Err(reason) = check_rename(entries, source, target) {
-        return Ok(Reply::Refused(reason));
+    match check_rename(entries, source, target) {
+        Err(reason) => Ok(Reply::Refused(reason)),
+        Ok(()) => {
+            move_entries(entries, alloc, source, target)?;
+            Ok(Reply::Done)
+        }
     }
-    move_entries(entries, alloc, source, target)?;
-    Ok(Reply::Done)
 }

@@ -1,4 +1,4 @@
-use Rattle.std.proofs.Common.{◌≡◌, position, [], Some, None, sym, subst, ◌∙◌}
+use Rattle.std.proofs.Common.{◌≡◌, refl, position, [], Some, None, sym, subst, ◌∙◌}
 use Rattle.vb_tree.specs.declared.tree.Kind.TheVariants.{File}
 use Rattle.vb_tree.specs.declared.tree.TreeEntry.{TreeEntry}
 use Rattle.vb_tree.specs.declared.operation.Op.{Op}
@@ -7,7 +7,7 @@ use Rattle.vb_path.specs.Paths.{same_path}
 use Rattle.vb_tree.specs.Contents.{written_over}
 use Rattle.vb_tree.specs.Refusals.{refusal_of}
 use Rattle.vb_tree.proofs.Lookups.{with_bytes_at-place}
-use Rattle.vb_tree.proofs.Allowed.{tree_after-allowed}
+use Rattle.vb_tree.proofs.Replies.{tree_after-allowed}
 use Rattle.vb_tree.proofs.changes.write.Goals as goal
 
 pub returns-in_ok-write_at-in-Ok-clause-tree : goal.returns-in_ok-write_at-in-Ok-clause-tree
@@ -22,4 +22,4 @@ returns-in_ok-write_at-in-Ok-clause-tree c =
     subst (λ t. refusal_of c.args.limits t op ≡ None) c.deref.ensures.value c.in-Ok.ensures.refused in
     c.in_ok-write_at-in-Ok.ensures.ok entry
     ∙ with_bytes_at-place (written_over c.args.offset c.args.written.now) path tree c.in-Ok.place entry found
-    ∙ sym (tree_after-allowed c.args.limits tree op allowed)
+    ∙ sym (tree_after-allowed c.args.limits tree op allowed refl)
