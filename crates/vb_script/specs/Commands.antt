@@ -1,5 +1,5 @@
 -- Commands: what a line's first word asks for.
-use Rattle.std.specs.Prelude.{ℕ, Bool, ◌||◌, if◌then◌else◌, List, codes, Option, Some, None, Result, Ok, Err}
+use Rattle.std.specs.Prelude.{ℕ, Bool, ◌||◌, if◌then◌else◌, List, codes, Option, Some, None, Result}
 use Rattle.std.specs.Str.{bytes_eq}
 use Rattle.vb_script.specs.declared.error.LineKind.TheVariants as kind
 use Rattle.vb_script.specs.declared.error.LineError.{LineError}

@@ -1,5 +1,5 @@
 -- Lines of a writer's section: what each says, or what is wrong with it.
-use Rattle.std.specs.Prelude.{ℕ, ◌-◌, ◌^◌, Bool, ◌&&◌, nat_lt, nat_le, List, length, Result, Ok, Err}
+use Rattle.std.specs.Prelude.{ℕ, ◌-◌, ◌^◌, ◌&&◌, nat_lt, nat_le, List, length, Result, Ok}
 use Rattle.vb_tree.specs.declared.operation.Op.{Op}
 use Rattle.vb_tree.specs.declared.operation.Op.TheVariants as op
 use Rattle.vb_hist.specs.declared.script.Line.{Line}

@@ -1,11 +1,9 @@
 -- Scripts: from the bytes to what they say, or to the first line that isn't read.
 use Rattle.std.specs.Prelude.{◌≡◌, ℕ, ◌+◌, ◌-◌, ◌*◌, ◌/◌, ◌≤◌, Bool, true, false, not, nat_lt, nat_le, ◌==◌, ◌&&◌, is_none, if◌then◌else◌, List, [], ◌∷◌, ◌++◌, length, take, count_by, Option, Some, None, Result, Ok, Err}
-use Rattle.std.specs.List.{list_any, AllByRecursion}
+use Rattle.std.specs.List.{list_any}
 use Rattle.std.specs.Option.{option_to_list}
 use Rattle.vb_hist.specs.declared.script.Line.{Line}
 use Rattle.vb_hist.specs.declared.script.WriterScript.{WriterScript}
-use Rattle.vb_hist.specs.Quiet.{IsLineInRange, AreInRange, line_count}
-use Rattle.vb_script.specs.declared.error.LineKind.{LineKind}
 use Rattle.vb_script.specs.declared.error.LineKind.TheVariants as kind
 use Rattle.vb_script.specs.declared.error.LineError.{LineError}
 use Rattle.vb_script.specs.declared.error.LineError.TheVariants as line

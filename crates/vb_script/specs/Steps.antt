@@ -1,7 +1,6 @@
 -- Steps that may find a line wrong.
 use Rattle.std.specs.Prelude.{◌≡◌, Bool, true, false, Option, Some, None, Result, Ok, Err}
 use Rattle.vb_script.specs.declared.error.LineKind.{LineKind}
-use Rattle.vb_script.specs.declared.error.LineKind.TheVariants as kind
 use Rattle.vb_script.specs.declared.error.LineError.{LineError}
 use Rattle.vb_script.specs.declared.error.LineError.TheVariants.{Wrong, NotYet, Memory}
 

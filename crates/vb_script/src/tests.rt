@@ -6,7 +6,7 @@ use crate::*;
 use std::alloc::{AllocError, Global};
 use std::test::Fail;
 use vb_hist::Line;
-use vb_tree::{Bytes, Op, PathError};
+use vb_tree::Op;
 
 /// Scripts of a rehearsal with a wrong line, and that line with its kind.
 const WRONG: [(&str, u64, LineKind); 96] = [
@@ -235,123 +235,98 @@ fn reads_disks_and_sections(rt: HostRuntime) {
     }
 }
 
-/// The operation of a script with one writer and one line.
-fn operation(alloc: Global, text: &str) -> Option<Op> {
-    let script = read_script(alloc, text.as_bytes(), Form::Run).ok()?;
-    let writer = script.writers.into_vec().pop()?;
-    match writer.lines.into_vec().pop()? {
+/// A line of an operation, and what it says: a word, the path, the other path or the bytes, and two numbers.
+type Row = (
+    &'static str,
+    &'static str,
+    &'static [u8],
+    &'static [u8],
+    u64,
+    u64,
+);
+
+/// Lines of operations.
+const OPERATIONS: [Row; 13] = [
+    ("writer 1\ncreate /a", "Create", b"/a", b"", 0, 0),
+    ("writer 1\nmkdir /a/b", "MakeDir", b"/a/b", b"", 0, 0),
+    (
+        "writer 1\nwrite /a 9223372036854710271 21fF",
+        "Write",
+        b"/a",
+        b"!\xff",
+        9_223_372_036_854_710_271,
+        0,
+    ),
+    ("writer 1\ntruncate /a 7", "Truncate", b"/a", b"", 7, 0),
+    ("writer 1\nrename /a /b%20c", "Rename", b"/a", b"/b c", 0, 0),
+    ("writer 1\nrm /é", "Remove", b"/\xc3\xa9", b"", 0, 0),
+    (
+        "writer 1\nrmdir /%C3%a9",
+        "RemoveDir",
+        b"/\xc3\xa9",
+        b"",
+        0,
+        0,
+    ),
+    ("writer 1\nread /a 5 6", "Read", b"/a", b"", 5, 6),
+    ("writer 1\nls /", "List", b"/", b"", 0, 0),
+    ("writer 1\nls /a%2fb", "List", b"/a/b", b"", 0, 0),
+    ("writer 1\nstat /100%", "Stat", b"/100%", b"", 0, 0),
+    ("writer 1\nstat /%2g%%20%2", "Stat", b"/%2g% %2", b"", 0, 0),
+    ("writer 1\nstat /%2541\r", "Stat", b"/%41\r", b"", 0, 0),
+];
+
+/// The first operation of the first writer.
+fn first_operation(script: &Script) -> Option<&Op> {
+    let writer = script.writers.slice().first()?;
+    match writer.lines.slice().first()? {
         Line::Perform { op } => Some(op),
         Line::Freeze => None,
     }
 }
 
-/// A path that is one.
-fn path(alloc: Global, text: &str) -> Result<vb_tree::Path, PathError> {
-    vb_tree::Path::parse(alloc, text.as_bytes())
-}
-
-#[test]
-fn reads_each_operation_as_it_stands(rt: HostRuntime) -> Result<(), Fail> {
-    let alloc = rt.alloc();
-    let rows = [
-        (
-            "create /a",
-            Op::Create {
-                path: path(alloc, "/a")?,
-            },
-        ),
-        (
-            "mkdir /a/b",
-            Op::MakeDir {
-                path: path(alloc, "/a/b")?,
-            },
-        ),
-        (
-            "truncate /a 7",
-            Op::Truncate {
-                path: path(alloc, "/a")?,
-                length: 7,
-            },
-        ),
-        (
-            "rm /é",
-            Op::Remove {
-                path: path(alloc, "/é")?,
-            },
-        ),
-        (
-            "rmdir /%C3%a9",
-            Op::RemoveDir {
-                path: path(alloc, "/é")?,
-            },
-        ),
-        (
-            "read /a 5 6",
-            Op::Read {
-                path: path(alloc, "/a")?,
-                offset: 5,
-                length: 6,
-            },
-        ),
-        (
-            "ls /",
-            Op::List {
-                path: path(alloc, "/")?,
-            },
-        ),
-        (
-            "ls /a%2fb",
-            Op::List {
-                path: path(alloc, "/a/b")?,
-            },
-        ),
-        (
-            "stat /100%",
-            Op::Stat {
-                path: path(alloc, "/100%")?,
-            },
-        ),
-        (
-            "stat /%2g%%20%2",
-            Op::Stat {
-                path: path(alloc, "/%2g% %2")?,
-            },
-        ),
-        (
-            "stat /%2541\r",
-            Op::Stat {
-                path: path(alloc, "/%41\r")?,
-            },
-        ),
-    ];
-    for (line, expected) in rows {
-        let script = format!(in alloc; "writer 1\n{line}")?;
-        assert_eq!(rt; operation(alloc, script.as_str()), Some(expected), "{line}");
+/// What an operation says, as a row has it.
+fn said(op: &Op) -> (&'static str, &[u8], &[u8], u64, u64) {
+    let none = b"".as_slice();
+    match op {
+        Op::Create { path } => ("Create", path.text(), none, 0, 0),
+        Op::MakeDir { path } => ("MakeDir", path.text(), none, 0, 0),
+        Op::Write {
+            path,
+            offset,
+            bytes,
+        } => ("Write", path.text(), bytes.slice(), *offset, 0),
+        Op::Truncate { path, length } => ("Truncate", path.text(), none, *length, 0),
+        Op::Rename { source, target } => ("Rename", source.text(), target.text(), 0, 0),
+        Op::Remove { path } => ("Remove", path.text(), none, 0, 0),
+        Op::RemoveDir { path } => ("RemoveDir", path.text(), none, 0, 0),
+        Op::Read {
+            path,
+            offset,
+            length,
+        } => ("Read", path.text(), none, *offset, u64::from(*length)),
+        Op::List { path } => ("List", path.text(), none, 0, 0),
+        Op::Stat { path } => ("Stat", path.text(), none, 0, 0),
     }
-    Ok(())
+}
+
+/// Whether the first operation of the first writer says what a row has.
+fn says(script: &Script, row: Row) -> bool {
+    let (_, name, path, other, first, second) = row;
+    match first_operation(script) {
+        Some(op) => said(op) == (name, path, other, first, second),
+        None => false,
+    }
 }
 
 #[test]
-fn reads_renames_and_writes_as_they_stand(rt: HostRuntime) -> Result<(), Fail> {
-    let alloc = rt.alloc();
-    let rename = Op::Rename {
-        source: path(alloc, "/a")?,
-        target: path(alloc, "/b c")?,
-    };
-    assert_eq!(rt;
-        operation(alloc, "writer 1\nrename /a /b%20c"),
-        Some(rename)
-    );
-    let write = Op::Write {
-        path: path(alloc, "/a")?,
-        offset: 9_223_372_036_854_710_271,
-        bytes: Bytes::of(alloc, b"!\xff")?,
-    };
-    assert_eq!(rt;
-        operation(alloc, "writer 1\nwrite /a 9223372036854710271 21fF"),
-        Some(write)
-    );
-    Ok(())
+fn reads_each_operation_as_it_stands(rt: HostRuntime) {
+    for row in OPERATIONS {
+        match read_script(rt.alloc(), row.0.as_bytes(), Form::Run) {
+            Ok(script) => assert!(rt; says(&script, row)),
+            Err(_) => assert!(rt; false),
+        }
+    }
 }
 
 /// A script that writes this many bytes.
