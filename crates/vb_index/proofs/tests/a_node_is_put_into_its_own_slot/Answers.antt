@@ -1,4 +1,4 @@
-use Rattle.std.proofs.Common.{◌≡◌, ap, ◌∙◌}
+use Rattle.std.proofs.Common.{ap, ◌∙◌}
 use Rattle.vb_index.specs.Nodes.{child_of}
 use Rattle.vb_index.specs.Indexes.{IndexState}
 use Rattle.vb_index.proofs.Beginnings.{fresh-child}
