@@ -1,5 +1,5 @@
 -- A new entry in the least free slot, and a node put into its own.
-use Rattle.std.proofs.Common.{◌≡◌, ℕ, zero, suc, ◌+◌, ◌-◌, ◌<◌, ◌≤◌, Bool, true, false, cond, inl, inr, replicate, List, [], ◌∷◌, ◌++◌, length, set, Option, Some, None, Result, Ok, Err, OnOk, refl, sym, ap, ◌∙◌, subst, arith}
+use Rattle.std.proofs.Common.{◌≡◌, ℕ, zero, suc, ◌<◌, false, cond, inl, inr, replicate, List, [], ◌∷◌, ◌++◌, length, set, Option, Some, None, Result, Ok, Err, OnOk, refl, sym, ap, ◌∙◌, subst, arith}
 use Rattle.std.specs.Option.{option_map, option_and_then}
 use Rattle.std.proofs.lemmas.Bool.{cases_Bool, false≢true}
 use Rattle.std.proofs.lemmas.Bool.Decides.{Decides-eqb}
@@ -9,7 +9,7 @@ use Rattle.vb_tree.specs.declared.tree.TreeEntry.{TreeEntry}
 use Rattle.vb_tree.specs.Trees.{is_root, insert_entry, parent_of, name_of}
 use Rattle.vb_index.specs.declared.held.Held.{Held}
 use Rattle.vb_index.specs.Nodes.{root_held, held_at, holds_folder, child_of, slot_at, slot_below, IsHeld, IsTable}
-use Rattle.vb_index.specs.Indexes.{Shape, shape_of, shape_at, shape_in, shape_of_entry, HasShapeOf, IsPlace, IsLeastFree, new_held}
+use Rattle.vb_index.specs.Indexes.{shape_of, shape_at, shape_in, shape_of_entry, HasShapeOf, IsPlace, IsLeastFree, new_held}
 use Rattle.vb_index.proofs.Beginnings.{fresh-child, fresh-count, fresh-pages}
 use Rattle.vb_index.proofs.Growth.{Fills, grown, path-split}
 

@@ -1,7 +1,6 @@
 -- A new node is a new entry of every tree that has the shape of the nodes.
-use Rattle.std.proofs.Common.{◌≡◌, ℕ, ◌+◌, ◌-◌, ◌<◌, ◌≤◌, Bool, true, false, cond, ◌==◌, List, [], ◌∷◌, ◌++◌, length, take, get_or, set, Option, Some, None, inl, inr, refl, sym, ap, ◌∙◌, subst, arith, length-append}
+use Rattle.std.proofs.Common.{◌≡◌, ℕ, ◌+◌, ◌-◌, ◌<◌, true, false, cond, ◌==◌, List, [], ◌∷◌, ◌++◌, length, take, set, Option, Some, None, inl, inr, refl, sym, ap, ◌∙◌, arith, length-append}
 use Rattle.std.specs.Option.{option_map, option_and_then}
-use Rattle.std.specs.List.{sum_by}
 use Rattle.std.specs.Ordering.{is_lt}
 use Rattle.std.proofs.lemmas.Bool.{cases_Bool, false≢true}
 use Rattle.std.proofs.lemmas.Bool.Decides.{Decides-eqb}
@@ -9,14 +8,13 @@ use Rattle.std.proofs.lemmas.List.{take_more, take_all}
 use Rattle.std.proofs.lemmas.List.Sums.{sum_by-cons}
 use Rattle.vb_path.specs.Paths.{same_path, path_cmp}
 use Rattle.vb_path.proofs.PathLaws.{same_path-Decides}
-use Rattle.vb_tree.specs.declared.tree.Kind.{Kind}
 use Rattle.vb_tree.specs.declared.tree.Kind.TheVariants.{Folder}
 use Rattle.vb_tree.specs.declared.tree.TreeEntry.{TreeEntry}
-use Rattle.vb_tree.specs.Trees.{is_root, entry_at, insert_entry, parent_of, name_of, pages_of_length, page_count, node_count}
+use Rattle.vb_tree.specs.Trees.{is_root, entry_at, insert_entry, parent_of, name_of, pages_of_length, page_count}
 use Rattle.vb_tree.proofs.TreeLaws.{entry_at-insert}
 use Rattle.vb_index.specs.declared.held.Held.{Held}
-use Rattle.vb_index.specs.Nodes.{kind_of, held_at, holds_folder, is_child, child_of, slot_at, slot_below, nodes_of_slot, nodes_in, pages_of_slot, pages_in, IsHeld, IsTable}
-use Rattle.vb_index.specs.Indexes.{Shape, shape_of, shape_below, shape_at, shape_of_entry, shape_in, HasShapeOf}
+use Rattle.vb_index.specs.Nodes.{held_at, holds_folder, is_child, child_of, slot_at, nodes_of_slot, pages_of_slot, IsHeld, IsTable}
+use Rattle.vb_index.specs.Indexes.{Shape, shape_of, shape_at, shape_of_entry, shape_in, HasShapeOf}
 use Rattle.vb_index.proofs.ChildLaws.{is_child-parts, is_child-own, child_of-Some, child_of-fill}
 use Rattle.vb_index.proofs.Walks.{snoc-ind, last_step, DifferInLeaf, walk-changed}
 use Rattle.vb_index.proofs.Tables.{table-forest, at_same, at_other, nodes_in-set, pages_in-set}

@@ -1,5 +1,5 @@
 -- What a table keeps beside its nodes, after a slot was filled or emptied.
-use Rattle.std.proofs.Common.{◌≡◌, ℕ, ◌+◌, ◌-◌, ◌<◌, ◌≤◌, Bool, true, false, not, cond, ◌&&◌, ◌==◌, nat_lt, is_none, is_some, vec_len, List, [], ◌∷◌, length, get_or, set, replicate, Option, Some, None, inl, inr, refl, sym, ap, ◌∙◌, subst, arith}
+use Rattle.std.proofs.Common.{◌≡◌, ℕ, ◌+◌, ◌<◌, ◌≤◌, Bool, true, false, not, cond, ◌&&◌, ◌==◌, nat_lt, is_none, is_some, vec_len, List, [], ◌∷◌, length, get_or, set, replicate, Option, Some, None, inl, inr, refl, sym, ap, ◌∙◌, subst, arith}
 use Rattle.std.specs.BTreeMap as tree
 use Rattle.std.specs.BTreeSet as sorted
 use Rattle.std.specs.Ordering.{nat_cmp, is_eq, is_gt}
@@ -16,10 +16,10 @@ use Rattle.std.proofs.lemmas.List.{length-set, length-replicate}
 use Rattle.vb_tree.specs.Trees.{pages_of_length}
 use Rattle.vb_index.specs.declared.held.Held.{Held}
 use Rattle.vb_index.specs.declared.table.Table.TheInside.{Inside}
-use Rattle.vb_index.specs.Nodes.{root_held, held_at, holds_folder, same_name, is_child, child_of, nodes_of_slot, nodes_in, pages_of_slot, pages_in, IsHeld, IsTable}
+use Rattle.vb_index.specs.Nodes.{root_held, held_at, same_name, child_of, nodes_of_slot, nodes_in, pages_of_slot, pages_in, IsTable}
 use Rattle.vb_index.specs.Tables.{IsKept}
 use Rattle.vb_index.specs.Indexes.{IsLeastFree}
-use Rattle.vb_index.proofs.ChildLaws.{child_of-fill, child_of-empty, is_child-own}
+use Rattle.vb_index.proofs.ChildLaws.{child_of-fill, child_of-empty}
 use Rattle.vb_index.proofs.Tables.{own_places, at_same, at_other, IsTable-fill, IsTable-empty, nodes_in-set, pages_in-set, some_free}
 use Rattle.vb_index.proofs.Beginnings.{fresh-table, fresh-child, fresh-count, fresh-pages, fresh-free}
 use Rattle.vb_index.proofs.Growth.{Fills}

@@ -1,5 +1,5 @@
 -- Whether a new entry is refused, by the nodes.
-use Rattle.std.proofs.Common.{◌≡◌, ℕ, ◌+◌, ◌-◌, ◌<◌, ◌≤◌, Bool, true, false, cond, not, is_some, is_none, nat_lt, List, [], ◌∷◌, ◌++◌, length, get_or, Option, Some, None, inl, inr, refl, sym, ap, ◌∙◌, arith}
+use Rattle.std.proofs.Common.{◌≡◌, ℕ, ◌+◌, ◌-◌, ◌<◌, ◌≤◌, Bool, true, false, not, is_some, is_none, nat_lt, List, [], ◌∷◌, length, get_or, Option, Some, None, inl, inr, refl, sym, ap, ◌∙◌, arith}
 use Rattle.std.specs.Option.{option_map, option_and_then}
 use Rattle.std.proofs.lemmas.Bool.{cases_Bool, false≢true}
 use Rattle.std.proofs.lemmas.Bool.Decides.{Decides-eqb, Decides-ltb}
@@ -12,7 +12,7 @@ use Rattle.vb_tree.specs.Trees.{is_root, kind_at, parent_of, name_of, node_count
 use Rattle.vb_tree.specs.Refusals.{refuse, refuse_way, refuse_missing, refuse_new}
 use Rattle.vb_index.specs.declared.held.Held.{Held}
 use Rattle.vb_index.specs.Nodes.{held_at, is_child, child_of, slot_at, nodes_in}
-use Rattle.vb_index.specs.Indexes.{Shape, shape_of, shape_below, shape_in, shape_at, HasShapeOf}
+use Rattle.vb_index.specs.Indexes.{Shape, shape_of, shape_below, shape_at, HasShapeOf}
 use Rattle.vb_index.proofs.ChildLaws.{child_of-Some}
 use Rattle.vb_index.proofs.Growth.{path-split}
 use Rattle.vb_index.proofs.Shapes.{kind_at-shape, shape_at-below}

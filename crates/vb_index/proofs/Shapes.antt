@@ -1,15 +1,14 @@
 -- What stands at a path of the nodes, and at the same path of a tree of their shape.
-use Rattle.std.proofs.Common.{◌≡◌, ℕ, ◌+◌, ◌-◌, ◌<◌, ◌≤◌, Bool, true, false, cond, List, [], ◌∷◌, ◌++◌, length, take, drop, get_or, Option, Some, None, refl, sym, ap, ◌∙◌, subst, arith}
-use Rattle.std.specs.Option.{option_map, option_and_then, option_or}
+use Rattle.std.proofs.Common.{◌≡◌, ℕ, ◌+◌, ◌<◌, ◌≤◌, Bool, true, false, List, [], ◌∷◌, ◌++◌, length, take, drop, get_or, Option, Some, None, refl, sym, ap, ◌∙◌, subst, arith}
+use Rattle.std.specs.Option.{option_map, option_and_then}
 use Rattle.std.proofs.lemmas.List.{take_more}
-use Rattle.vb_tree.specs.declared.tree.Kind.{Kind}
 use Rattle.vb_tree.specs.declared.tree.TreeEntry.{TreeEntry}
 use Rattle.vb_tree.specs.declared.reply.Refusal.{Refusal}
 use Rattle.vb_tree.specs.Trees.{is_root, entry_at, kind_at}
 use Rattle.vb_tree.specs.Refusals.{refuse_step, refuse_way, refuse_rest}
 use Rattle.vb_tree.proofs.Ways.{refuse_rest-step, refuse_rest-end}
 use Rattle.vb_index.specs.declared.held.Held.{Held}
-use Rattle.vb_index.specs.Nodes.{held_at, holds_folder, child_of, slot_at, slot_below, IsTable}
+use Rattle.vb_index.specs.Nodes.{held_at, holds_folder, child_of, slot_at, IsTable}
 use Rattle.vb_index.specs.Indexes.{Shape, shape_of, shape_below, shape_at, shape_of_entry, shape_in, HasShapeOf}
 use Rattle.vb_index.proofs.Walks.{walk-snoc}
 

@@ -1,19 +1,17 @@
 -- A node that leaves is an entry that leaves every tree that has the shape of the nodes.
-use Rattle.std.proofs.Common.{◌≡◌, ℕ, ◌+◌, ◌-◌, ◌<◌, ◌≤◌, Bool, true, false, not, cond, ◌==◌, List, [], ◌∷◌, ◌++◌, length, get_or, set, Option, Some, None, inl, inr, refl, sym, ap, ◌∙◌, subst, filter, arith}
+use Rattle.std.proofs.Common.{◌≡◌, ℕ, ◌+◌, ◌<◌, false, not, cond, ◌==◌, List, [], ◌∷◌, ◌++◌, length, set, Option, Some, None, inl, inr, refl, sym, ap, ◌∙◌, subst, arith}
 use Rattle.std.specs.Option.{option_map, option_and_then}
-use Rattle.std.specs.List.{sum_by}
-use Rattle.std.specs.declared.cmp.Ordering.TheVariants.{Less}
 use Rattle.std.specs.Ordering.{is_eq}
-use Rattle.std.proofs.lemmas.Bool.{cases_Bool, false≢true}
+use Rattle.std.proofs.lemmas.Bool.{cases_Bool}
 use Rattle.std.proofs.lemmas.Bool.Decides.{Decides-eqb}
 use Rattle.std.proofs.lemmas.List.Sums.{sum_by-cons}
-use Rattle.vb_path.specs.Paths.{same_path, path_cmp}
+use Rattle.vb_path.specs.Paths.{same_path}
 use Rattle.vb_path.proofs.PathLaws.{same_path-Decides, same_path-ties}
 use Rattle.vb_tree.specs.declared.tree.Kind.TheVariants.{Folder}
 use Rattle.vb_tree.specs.declared.tree.TreeEntry.{TreeEntry}
-use Rattle.vb_tree.specs.Trees.{is_root, entry_at, without, pages_of_length, page_count, node_count, AllAfter, AreInOrder, IsTree}
+use Rattle.vb_tree.specs.Trees.{is_root, entry_at, without, pages_of_length, page_count, AllAfter, AreInOrder, IsTree}
 use Rattle.vb_index.specs.declared.held.Held.{Held}
-use Rattle.vb_index.specs.Nodes.{held_at, is_child, child_of, slot_at, slot_below, nodes_of_slot, nodes_in, pages_of_slot, pages_in, IsTable}
+use Rattle.vb_index.specs.Nodes.{held_at, is_child, child_of, slot_at, nodes_of_slot, pages_of_slot, IsTable}
 use Rattle.vb_index.specs.Indexes.{Shape, shape_of, shape_at, shape_of_entry, shape_in, HasShapeOf}
 use Rattle.vb_index.proofs.ChildLaws.{is_child-parts, is_child-own, child_of-empty}
 use Rattle.vb_index.proofs.Walks.{walk-snoc, walk-alone, DifferInLeaf, walk-changed}

@@ -1,12 +1,12 @@
 -- One step down a path: what stands at a name in a folder, and what that means for the way.
-use Rattle.std.proofs.Common.{◌≡◌, ℕ, Bool, true, false, cond, List, [], Option, Some, None, refl, sym, ap, ◌∙◌}
+use Rattle.std.proofs.Common.{◌≡◌, ℕ, true, false, cond, List, Option, Some, None, refl, sym, ap, ◌∙◌}
 use Rattle.std.specs.Option.{option_map, option_and_then}
 use Rattle.vb_tree.specs.declared.tree.Kind.TheVariants.{Folder, File}
 use Rattle.vb_tree.specs.declared.reply.Refusal.{Refusal}
 use Rattle.vb_tree.specs.declared.reply.Refusal.TheVariants.{NoParent, ParentNotDir}
 use Rattle.vb_tree.specs.Refusals.{refuse_step}
 use Rattle.vb_index.specs.declared.held.Held.{Held}
-use Rattle.vb_index.specs.Nodes.{is_folder_node, kind_of, held_at, holds_folder, child_of, IsTable}
+use Rattle.vb_index.specs.Nodes.{is_folder_node, kind_of, held_at, child_of, IsTable}
 use Rattle.vb_index.specs.Indexes.{Shape, shape_of, shape_below}
 
 join-map : {A B C : Type 0} (f : B → C) (g : A → Option B) (o : Option A) → option_and_then (λ a. option_map f (g a)) o ≡ option_map f (option_and_then g o)

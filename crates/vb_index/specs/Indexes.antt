@@ -1,5 +1,5 @@
 -- Indexes: limits and nodes, and the trees that have the folders, files and lengths of the nodes.
-use Rattle.std.specs.Prelude.{◌≡◌, ℕ, ◌<◌, true, if◌then◌else◌, IsSome, List, [], ◌∷◌, length, get_or, Option, Some, None, Result, Ok, Err}
+use Rattle.std.specs.Prelude.{◌≡◌, ℕ, ◌<◌, true, if◌then◌else◌, IsSome, List, [], length, Option, Some, None, Result, Ok, Err}
 use Rattle.std.specs.Option.{option_map, option_and_then}
 use Rattle.vb_inode.specs.declared.node.NodeKind.{NodeKind}
 use Rattle.vb_inode.specs.declared.node.NodeKind.TheVariants.{Folder as FolderNode, File as FileNode}

@@ -1,4 +1,4 @@
-use Rattle.std.proofs.Common.{◌≡◌, ◌≤◌, ◌∷◌, [], ◌++◌, None, ap, ◌∙◌, arith}
+use Rattle.std.proofs.Common.{◌∷◌, [], ◌++◌, None, ap, ◌∙◌, arith}
 use Rattle.vb_index.proofs.Beginnings.{one_more}
 use Rattle.vb_index.proofs.fresh.fresh_nodes.Goals as goal
 

@@ -1,4 +1,4 @@
-use Rattle.std.proofs.Common.{◌≡◌, ℕ, ◌+◌, ◌-◌, ◌<◌, ◌≤◌, Bool, true, false, is_some, List, length, refl, sym, ap, ◌∙◌, arith}
+use Rattle.std.proofs.Common.{◌≡◌, ◌<◌, is_some, length, sym, ap, ◌∙◌, arith}
 use Rattle.vb_tree.specs.Trees.{name_of}
 use Rattle.vb_index.specs.Nodes.{child_of}
 use Rattle.vb_index.proofs.Newness.{has_parts, last_name, new-exists, new-many, new-allowed}

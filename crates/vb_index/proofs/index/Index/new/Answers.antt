@@ -1,4 +1,4 @@
-use Rattle.std.proofs.Common.{◌≡◌, ◌+◌, ◌-◌, ◌≤◌, List, Option, [], length, sym, ap, ◌∙◌, subst, arith}
+use Rattle.std.proofs.Common.{◌≡◌, ◌+◌, ◌-◌, List, Option, [], length, sym, ap, ◌∙◌, subst, arith}
 use Rattle.vb_index.specs.declared.held.Held.{Held}
 use Rattle.vb_index.specs.Indexes.{HasShapeOf}
 use Rattle.vb_index.proofs.Additions.{fresh-shape}

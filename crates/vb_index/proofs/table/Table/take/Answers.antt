@@ -1,8 +1,7 @@
-use Rattle.std.proofs.Common.{◌≡◌, ℕ, ◌+◌, ◌-◌, ◌<◌, ◌≤◌, List, length, Option, Some, None, refl, sym, ap, ◌∙◌, subst, arith}
+use Rattle.std.proofs.Common.{◌≡◌, ℕ, List, Option, Some, None, refl, sym, subst, arith}
 use Rattle.vb_index.specs.declared.held.Held.{Held}
 use Rattle.vb_index.specs.Nodes.{held_at, child_of}
 use Rattle.vb_index.proofs.Kept.{kept-empty}
-use Rattle.vb_index.proofs.Shrinking.{Leaves}
 use Rattle.vb_index.proofs.Tables.{folder_in, held_in_table, among_totals}
 use Rattle.vb_index.proofs.table.Table.take.Goals as goal
 
