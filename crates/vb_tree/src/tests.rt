@@ -2,7 +2,7 @@
 ghost use Rattle.vb_tree.specs.Operations.{IsInRange};
 
 use super::*;
-use std::alloc::Global;
+use std::alloc::{AllocError, Global};
 use std::process::Abort;
 use std::test::Fail;
 
@@ -27,149 +27,220 @@ fn path(alloc: Global, text: &[u8]) -> Result<Path, Fail> {
     Ok(Path::parse(alloc, text)?)
 }
 
-/// The reply with this refusal, and Done without one.
-fn due(refusal: Option<Refusal>) -> Reply {
-    match refusal {
-        Some(reason) => Reply::Refused(reason),
-        None => Reply::Done,
+fn perform(plain: &mut Plain, alloc: Global, op: Op) -> Result<Reply, AllocError>
+    requires { IsInRange op }
+{
+    plain.perform(alloc, &op)
+}
+
+/// Whether a reply is this refusal, or Done without one.
+fn is_due(reply: &Reply, refusal: Option<Refusal>) -> bool {
+    match reply {
+        Reply::Done => refusal.is_none(),
+        Reply::Refused(reason) => refusal == Some(*reason),
+        _ => false,
     }
 }
 
-fn play(plain: &mut Plain, alloc: Global, op: Op) -> Result<Reply, Fail>
+/// Whether an operation is refused so, or done.
+fn changes(plain: &mut Plain, alloc: Global, op: Op, refusal: Option<Refusal>) -> Result<bool, Fail>
     requires { IsInRange op }
 {
-    let reply = plain.perform(alloc, &op.copy(alloc)?)?;
-    Ok(reply.copy(alloc)?)
+    let reply = perform(plain, alloc, op)?;
+    Ok(is_due(&reply, refusal))
 }
 
-fn create(plain: &mut Plain, alloc: Global, text: &[u8]) -> Result<Reply, Fail> {
-    let path = path(alloc, text)?;
-    play(plain, alloc, Op::Create { path })
+/// Whether an operation answers so, also once the reply is copied.
+fn answers(plain: &mut Plain, alloc: Global, op: Op, due: &Reply) -> Result<bool, Fail>
+    requires { IsInRange op }
+{
+    let reply = perform(plain, alloc, op)?;
+    is_copied(alloc, &reply, due)
 }
 
-fn make_dir(plain: &mut Plain, alloc: Global, text: &[u8]) -> Result<Reply, Fail> {
-    let path = path(alloc, text)?;
-    play(plain, alloc, Op::MakeDir { path })
+/// Whether the copy of a reply is this one.
+fn is_copied(alloc: Global, reply: &Reply, due: &Reply) -> Result<bool, Fail> {
+    let copied = reply.copy(alloc)?;
+    Ok(copied == *due)
 }
 
-fn rename(plain: &mut Plain, alloc: Global, row: (&[u8], &[u8])) -> Result<Reply, Fail> {
-    let source = path(alloc, row.0)?;
-    let target = path(alloc, row.1)?;
-    play(plain, alloc, Op::Rename { source, target })
-}
-
-fn truncate(
-    rt: &impl Abort,
+/// Whether a file is made, or this refusal given.
+fn creates(
     plain: &mut Plain,
     alloc: Global,
-    row: (&[u8], u64),
-) -> Result<Reply, Fail> {
-    let (text, length) = row;
-    assert!(rt; length < 1 << 63);
+    text: &[u8],
+    refusal: Option<Refusal>,
+) -> Result<bool, Fail> {
     let path = path(alloc, text)?;
-    play(plain, alloc, Op::Truncate { path, length })
+    changes(plain, alloc, Op::Create { path }, refusal)
 }
 
-fn write(
-    rt: &impl Abort,
+/// Whether a folder is made, or this refusal given.
+fn makes_dir(
     plain: &mut Plain,
     alloc: Global,
-    row: (&[u8], u64, &[u8]),
-) -> Result<Reply, Fail> {
-    let (text, offset, bytes) = row;
-    assert!(rt; offset < 1 << 63 && bytes.len() <= 65536);
+    text: &[u8],
+    refusal: Option<Refusal>,
+) -> Result<bool, Fail> {
     let path = path(alloc, text)?;
-    let bytes = Bytes::of(alloc, bytes)?;
+    changes(plain, alloc, Op::MakeDir { path }, refusal)
+}
+
+/// Whether a file is removed, or this refusal given.
+fn removes(
+    plain: &mut Plain,
+    alloc: Global,
+    text: &[u8],
+    refusal: Option<Refusal>,
+) -> Result<bool, Fail> {
+    let path = path(alloc, text)?;
+    changes(plain, alloc, Op::Remove { path }, refusal)
+}
+
+/// Whether a folder is removed, or this refusal given.
+fn removes_dir(
+    plain: &mut Plain,
+    alloc: Global,
+    text: &[u8],
+    refusal: Option<Refusal>,
+) -> Result<bool, Fail> {
+    let path = path(alloc, text)?;
+    changes(plain, alloc, Op::RemoveDir { path }, refusal)
+}
+
+/// Whether a rename is made, or this refusal given.
+fn renames(
+    plain: &mut Plain,
+    alloc: Global,
+    texts: (&[u8], &[u8]),
+    refusal: Option<Refusal>,
+) -> Result<bool, Fail> {
+    let source = path(alloc, texts.0)?;
+    let target = path(alloc, texts.1)?;
+    changes(plain, alloc, Op::Rename { source, target }, refusal)
+}
+
+/// Whether a file gets a length, or this refusal is given.
+fn truncates(
+    plain: &mut Plain,
+    alloc: Global,
+    file: (&[u8], u64),
+    refusal: Option<Refusal>,
+) -> Result<bool, Fail> {
+    let (text, length) = file;
+    if length >= 1 << 63 {
+        return Ok(false);
+    }
+    let path = path(alloc, text)?;
+    changes(plain, alloc, Op::Truncate { path, length }, refusal)
+}
+
+/// Whether bytes are written, or this refusal is given.
+fn writes(
+    plain: &mut Plain,
+    alloc: Global,
+    file: (&[u8], u64, &[u8]),
+    refusal: Option<Refusal>,
+) -> Result<bool, Fail> {
+    let (text, offset, written) = file;
+    if offset >= 1 << 63 || written.len() > 65536 {
+        return Ok(false);
+    }
+    let path = path(alloc, text)?;
+    let bytes = Bytes::of(alloc, written)?;
     let op = Op::Write {
         path,
         offset,
         bytes,
     };
-    play(plain, alloc, op)
+    changes(plain, alloc, op, refusal)
 }
 
-fn read(
-    rt: &impl Abort,
+/// Whether these bytes are read.
+fn reads(
     plain: &mut Plain,
     alloc: Global,
-    row: (&[u8], u64, u32),
-) -> Result<Reply, Fail> {
-    let (text, offset, length) = row;
-    assert!(rt; offset < 1 << 63 && length <= 65536);
+    file: (&[u8], u64, u32),
+    due: &[u8],
+) -> Result<bool, Fail> {
+    let (text, offset, length) = file;
+    if offset >= 1 << 63 || length > 65536 {
+        return Ok(false);
+    }
     let path = path(alloc, text)?;
+    let due = Reply::Bytes(Bytes::of(alloc, due)?);
     let op = Op::Read {
         path,
         offset,
         length,
     };
-    Ok(plain.perform(alloc, &op)?)
-}
-
-fn no_space(pages: u64, limit: u64) -> Reply {
-    Reply::Refused(Refusal::NoSpace { pages, limit })
+    answers(plain, alloc, op, &due)
 }
 
 #[test]
 fn a_map_page_is_counted_in_the_limit(rt: HostRuntime) -> Result<(), Fail> {
     let alloc = rt.alloc();
-    let mut plain = Plain::new(alloc, TWO_PAGES);
-    assert_eq!(rt; create(&mut plain, alloc, b"/a")?, Reply::Done);
-    assert_eq!(rt;
-        truncate(&rt, &mut plain, alloc, (b"/a", 4096))?,
-        Reply::Done
-    );
-    assert_eq!(rt;
-        truncate(&rt, &mut plain, alloc, (b"/a", 4097))?,
-        no_space(3, 2)
-    );
-    let mut plain = Plain::new(alloc, MORE_PAGES);
-    assert_eq!(rt; create(&mut plain, alloc, b"/a")?, Reply::Done);
-    assert_eq!(rt;
-        truncate(&rt, &mut plain, alloc, (b"/a", 462848))?,
-        Reply::Done
-    );
-    assert_eq!(rt;
-        truncate(&rt, &mut plain, alloc, (b"/a", 466944))?,
-        no_space(116, 115)
-    );
+    let rows = [
+        (TWO_PAGES, 4096, 4097, 3),
+        (MORE_PAGES, 462848, 466944, 116),
+    ];
+    for (limits, fits, more, pages) in rows {
+        let mut plain = Plain::new(alloc, limits);
+        let full = Refusal::NoSpace {
+            pages,
+            limit: limits.pages,
+        };
+        assert!(rt; creates(&mut plain, alloc, b"/a", None)?);
+        assert!(rt; truncates(&mut plain, alloc, (b"/a", fits), None)?);
+        assert!(rt; truncates(&mut plain, alloc, (b"/a", more), Some(full))?);
+    }
+    Ok(())
+}
+
+/// Writes, one after the other on the file `/a`, with their refusals.
+const WRITES: [(&[u8], u64, &[u8], Option<Refusal>); 7] = [
+    (b"/a", 2, b"hello", None),
+    (b"/a", 3, b"u", None),
+    (b"/a", 99, b"", None),
+    (b"/b", 0, b"x", Some(Refusal::NoEntry)),
+    (b"/", 0, b"x", Some(Refusal::NotAFile)),
+    (b"/a/b", 0, b"x", Some(Refusal::ParentNotDir)),
+    (
+        b"/a",
+        44433408,
+        b"x",
+        Some(Refusal::TooLong { length: 44433409 }),
+    ),
+];
+
+#[test]
+fn bytes_are_written_and_read(rt: HostRuntime) -> Result<(), Fail> {
+    let alloc = rt.alloc();
+    let mut plain = Plain::new(alloc, MANY_PAGES);
+    assert!(rt; creates(&mut plain, alloc, b"/a", None)?);
+    for (text, offset, bytes, refusal) in WRITES {
+        assert!(rt; writes(&mut plain, alloc, (text, offset, bytes), refusal)?);
+    }
+    assert!(rt; reads(&mut plain, alloc, (b"/a", 0, 9), b"\0\0hullo")?);
+    assert!(rt; reads(&mut plain, alloc, (b"/a", 2, 3), b"hul")?);
+    assert!(rt; reads(&mut plain, alloc, (b"/a", 8, 9), b"")?);
     Ok(())
 }
 
 #[test]
-fn bytes_are_written_cut_and_read(rt: HostRuntime) -> Result<(), Fail> {
-    let writes: [(&[u8], u64, &[u8], Option<Refusal>); 7] = [
-        (b"/a", 2, b"hello", None),
-        (b"/a", 3, b"u", None),
-        (b"/a", 99, b"", None),
-        (b"/b", 0, b"x", Some(Refusal::NoEntry)),
-        (b"/", 0, b"x", Some(Refusal::NotAFile)),
-        (b"/a/b", 0, b"x", Some(Refusal::ParentNotDir)),
-        (
-            b"/a",
-            44433408,
-            b"x",
-            Some(Refusal::TooLong { length: 44433409 }),
-        ),
-    ];
+fn bytes_are_cut_and_extended(rt: HostRuntime) -> Result<(), Fail> {
     let alloc = rt.alloc();
     let mut plain = Plain::new(alloc, MANY_PAGES);
-    assert_eq!(rt; create(&mut plain, alloc, b"/a")?, Reply::Done);
-    for (text, offset, bytes, refusal) in writes {
-        let reply = write(&rt, &mut plain, alloc, (text, offset, bytes))?;
-        assert_eq!(rt; reply, due(refusal));
-    }
-    let rest = Reply::Bytes(Bytes::of(alloc, b"hullo")?);
-    assert_eq!(rt; read(&rt, &mut plain, alloc, (b"/a", 2, 9))?, rest);
-    let past = Reply::Bytes(Bytes::new(alloc));
-    assert_eq!(rt; read(&rt, &mut plain, alloc, (b"/a", 8, 9))?, past);
-    assert_eq!(rt; truncate(&rt, &mut plain, alloc, (b"/a", 3))?, Reply::Done);
-    assert_eq!(rt; truncate(&rt, &mut plain, alloc, (b"/a", 5))?, Reply::Done);
+    assert!(rt; creates(&mut plain, alloc, b"/a", None)?);
+    assert!(rt; writes(&mut plain, alloc, (b"/a", 0, b"hello"), None)?);
+    assert!(rt; truncates(&mut plain, alloc, (b"/a", 3), None)?);
+    assert!(rt; truncates(&mut plain, alloc, (b"/a", 5), None)?);
     let plain = plain.copy(alloc)?;
     assert_eq!(rt; plain.len(), 1);
     let (path, kind, bytes) = plain.entry(0);
     assert_eq!(rt; path.text(), b"/a".as_slice());
     assert_eq!(rt; kind, Kind::File);
-    assert_eq!(rt; bytes, b"\0\0h\0\0".as_slice());
+    assert_eq!(rt; bytes, b"hel\0\0".as_slice());
     Ok(())
 }
 
@@ -181,14 +252,17 @@ fn names(alloc: Global, texts: &[&[u8]]) -> Result<Names, Fail> {
     Ok(names)
 }
 
-fn list(plain: &mut Plain, alloc: Global, text: &[u8]) -> Result<Reply, Fail> {
-    let path = path(alloc, text)?;
-    play(plain, alloc, Op::List { path })
+/// Whether the root has these names.
+fn lists(plain: &mut Plain, alloc: Global, due: &[&[u8]]) -> Result<bool, Fail> {
+    let path = path(alloc, b"/")?;
+    let due = Reply::Names(names(alloc, due)?);
+    answers(plain, alloc, Op::List { path }, &due)
 }
 
-fn stat(plain: &mut Plain, alloc: Global, text: &[u8]) -> Result<Reply, Fail> {
+/// Whether what stands at a path is this.
+fn is_at(plain: &mut Plain, alloc: Global, text: &[u8], due: &Reply) -> Result<bool, Fail> {
     let path = path(alloc, text)?;
-    play(plain, alloc, Op::Stat { path })
+    answers(plain, alloc, Op::Stat { path }, due)
 }
 
 #[test]
@@ -197,22 +271,14 @@ fn names_are_listed_in_byte_order(rt: HostRuntime) -> Result<(), Fail> {
     let mut plain = Plain::new(alloc, TWO_PAGES);
     let texts: [&[u8]; 4] = [b"/b", b"/a!", b"/e", b"/a"];
     for text in texts {
-        assert_eq!(rt; create(&mut plain, alloc, text)?, Reply::Done);
+        assert!(rt; creates(&mut plain, alloc, text, None)?);
     }
-    let due = names(alloc, &[b"a", b"a!", b"b", b"e"])?;
-    assert_eq!(rt; list(&mut plain, alloc, b"/")?, Reply::Names(due));
-    Ok(())
-}
-
-#[test]
-fn the_root_is_a_folder(rt: HostRuntime) -> Result<(), Fail> {
-    let alloc = rt.alloc();
-    let mut plain = Plain::new(alloc, TWO_PAGES);
-    let due = Reply::Info {
+    assert!(rt; lists(&mut plain, alloc, &[b"a", b"a!", b"b", b"e"])?);
+    let root = Reply::Info {
         kind: Kind::Folder,
         length: 0,
     };
-    assert_eq!(rt; stat(&mut plain, alloc, b"/")?, due);
+    assert!(rt; is_at(&mut plain, alloc, b"/", &root)?);
     Ok(())
 }
 
@@ -221,40 +287,42 @@ fn the_root_is_counted_as_a_node(rt: HostRuntime) -> Result<(), Fail> {
     let alloc = rt.alloc();
     let mut plain = Plain::new(alloc, TWO_PAGES);
     for name in b"abcdefghijklmno" {
-        assert_eq!(rt; create(&mut plain, alloc, &[b'/', *name])?, Reply::Done);
+        assert!(rt; creates(&mut plain, alloc, &[b'/', *name], None)?);
     }
     let full = Refusal::TooManyNodes {
         nodes: 17,
         limit: 16,
     };
-    assert_eq!(rt; create(&mut plain, alloc, b"/p")?, Reply::Refused(full));
+    assert!(rt; creates(&mut plain, alloc, b"/p", Some(full))?);
     Ok(())
 }
+
+/// Renames, one after the other, with their refusals.
+const RENAMES: [(&[u8], &[u8], Option<Refusal>); 10] = [
+    (b"/d", b"/d", None),
+    (b"/", b"/x", Some(Refusal::RootFixed)),
+    (b"/a", b"/", Some(Refusal::RootFixed)),
+    (b"/x", b"/y", Some(Refusal::NoEntry)),
+    (b"/d", b"/d/e/x", Some(Refusal::IntoItself)),
+    (b"/a", b"/x/y", Some(Refusal::NoParent)),
+    (b"/d", b"/a", Some(Refusal::Exists)),
+    (b"/a", b"/g", Some(Refusal::Exists)),
+    (b"/a", b"/b", None),
+    (b"/d", b"/g/h", None),
+];
 
 #[test]
 fn renames_move_or_refuse(rt: HostRuntime) -> Result<(), Fail> {
     let alloc = rt.alloc();
     let mut plain = Plain::new(alloc, MANY_PAGES);
     for text in [b"/d".as_slice(), b"/d/e".as_slice(), b"/g".as_slice()] {
-        assert_eq!(rt; make_dir(&mut plain, alloc, text)?, Reply::Done);
+        assert!(rt; makes_dir(&mut plain, alloc, text, None)?);
     }
     for text in [b"/d/e/f".as_slice(), b"/a".as_slice(), b"/b".as_slice()] {
-        assert_eq!(rt; create(&mut plain, alloc, text)?, Reply::Done);
+        assert!(rt; creates(&mut plain, alloc, text, None)?);
     }
-    let rows: [(&[u8], &[u8], Option<Refusal>); 10] = [
-        (b"/d", b"/d", None),
-        (b"/", b"/x", Some(Refusal::RootFixed)),
-        (b"/a", b"/", Some(Refusal::RootFixed)),
-        (b"/x", b"/y", Some(Refusal::NoEntry)),
-        (b"/d", b"/d/e/x", Some(Refusal::IntoItself)),
-        (b"/a", b"/x/y", Some(Refusal::NoParent)),
-        (b"/d", b"/a", Some(Refusal::Exists)),
-        (b"/a", b"/g", Some(Refusal::Exists)),
-        (b"/a", b"/b", None),
-        (b"/d", b"/g/h", None),
-    ];
-    for (source, target, refusal) in rows {
-        assert_eq!(rt; rename(&mut plain, alloc, (source, target))?, due(refusal));
+    for (source, target, refusal) in RENAMES {
+        assert!(rt; renames(&mut plain, alloc, (source, target), refusal)?);
     }
     let texts: [&[u8]; 5] = [b"/b", b"/g", b"/g/h", b"/g/h/e", b"/g/h/e/f"];
     assert_eq!(rt; plain.len(), 5);
@@ -274,68 +342,108 @@ fn deep_text(alloc: Global, parts: usize, part: &[u8]) -> Result<Vec<u8>, Fail> 
     Ok(text)
 }
 
+/// Makes folders below each other, so many, each of this name.
+fn makes_deep_dirs(
+    plain: &mut Plain,
+    alloc: Global,
+    parts: usize,
+    part: &[u8],
+) -> Result<bool, Fail> {
+    for depth in 1..parts + 1 {
+        let text = deep_text(alloc, depth, part)?;
+        if !makes_dir(plain, alloc, text.as_slice(), None)? {
+            return Ok(false);
+        }
+    }
+    Ok(true)
+}
+
 #[test]
-fn moves_that_go_too_deep_are_refused(rt: HostRuntime) -> Result<(), Fail> {
+fn moves_to_too_many_parts_are_refused(rt: HostRuntime) -> Result<(), Fail> {
+    let alloc = rt.alloc();
+    let mut plain = Plain::new(alloc, MANY_PAGES);
+    assert!(rt; makes_dir(&mut plain, alloc, b"/s", None)?);
+    assert!(rt; creates(&mut plain, alloc, b"/s/x", None)?);
+    assert!(rt; makes_deep_dirs(&mut plain, alloc, 31, b"t")?);
+    let deep = deep_text(alloc, 32, b"t")?;
+    let texts = (b"/s".as_slice(), deep.as_slice());
+    assert!(rt; renames(&mut plain, alloc, texts, Some(Refusal::DeepTree))?);
+    assert_eq!(rt; plain.len(), 33);
+    Ok(())
+}
+
+#[test]
+fn moves_to_too_many_bytes_are_refused(rt: HostRuntime) -> Result<(), Fail> {
     let alloc = rt.alloc();
     let mut plain = Plain::new(alloc, MANY_PAGES);
     let name = [b'n'; 255];
-    assert_eq!(rt; make_dir(&mut plain, alloc, b"/s")?, Reply::Done);
-    assert_eq!(rt; create(&mut plain, alloc, b"/s/x")?, Reply::Done);
-    for parts in 1..4 {
-        let text = deep_text(alloc, parts, &name)?;
-        assert_eq!(rt; make_dir(&mut plain, alloc, text.as_slice())?, Reply::Done);
-    }
-    for parts in 1..32 {
-        let text = deep_text(alloc, parts, b"t")?;
-        assert_eq!(rt; make_dir(&mut plain, alloc, text.as_slice())?, Reply::Done);
-    }
-    let deep = deep_text(alloc, 32, b"t")?;
-    let mut long = deep_text(alloc, 3, &name)?;
-    long.push(b'/')?;
-    long.extend_from_slice(&name[..253])?;
-    let mut longer = Vec::from_slice(alloc, long.as_slice())?;
-    longer.push(b'n')?;
-    let refused = Reply::Refused(Refusal::DeepTree);
-    assert_eq!(rt;
-        rename(&mut plain, alloc, (b"/s", deep.as_slice()))?,
-        refused
-    );
-    assert_eq!(rt;
-        rename(&mut plain, alloc, (b"/s", longer.as_slice()))?,
-        refused
-    );
-    assert_eq!(rt;
-        rename(&mut plain, alloc, (b"/s", long.as_slice()))?,
-        Reply::Done
-    );
-    assert_eq!(rt; plain.len(), 36);
+    assert!(rt; makes_dir(&mut plain, alloc, b"/s", None)?);
+    assert!(rt; creates(&mut plain, alloc, b"/s/x", None)?);
+    assert!(rt; makes_deep_dirs(&mut plain, alloc, 3, &name)?);
+
+    // 768 bytes, and a name of 254: with `/x` behind it that is one byte too many.
+    let mut text = deep_text(alloc, 3, &name)?;
+    text.push(b'/')?;
+    text.extend_from_slice(&name[..254])?;
+    let texts = (b"/s".as_slice(), text.as_slice());
+    assert!(rt; renames(&mut plain, alloc, texts, Some(Refusal::DeepTree))?);
+    let shorter = &text.as_slice()[..1022];
+    assert!(rt; renames(&mut plain, alloc, (b"/s", shorter), None)?);
+    assert_eq!(rt; plain.len(), 5);
     Ok(())
 }
+
+/// Removals, one after the other, of files and of folders, with their refusals.
+const REMOVALS: [(&[u8], Kind, Option<Refusal>); 7] = [
+    (b"/", Kind::File, Some(Refusal::RootFixed)),
+    (b"/", Kind::Folder, Some(Refusal::RootFixed)),
+    (b"/d", Kind::Folder, Some(Refusal::NotEmpty)),
+    (b"/d", Kind::File, Some(Refusal::NotAFile)),
+    (b"/d/a", Kind::Folder, Some(Refusal::NotADir)),
+    (b"/d/a", Kind::File, None),
+    (b"/d", Kind::Folder, None),
+];
 
 #[test]
 fn removals_take_what_is_empty(rt: HostRuntime) -> Result<(), Fail> {
     let alloc = rt.alloc();
     let mut plain = Plain::new(alloc, MANY_PAGES);
-    assert_eq!(rt; make_dir(&mut plain, alloc, b"/d")?, Reply::Done);
-    assert_eq!(rt; create(&mut plain, alloc, b"/d/a")?, Reply::Done);
-    let rows: [(&[u8], bool, Option<Refusal>); 7] = [
-        (b"/", true, Some(Refusal::RootFixed)),
-        (b"/", false, Some(Refusal::RootFixed)),
-        (b"/d", false, Some(Refusal::NotEmpty)),
-        (b"/d", true, Some(Refusal::NotAFile)),
-        (b"/d/a", false, Some(Refusal::NotADir)),
-        (b"/d/a", true, None),
-        (b"/d", false, None),
-    ];
-    for (text, is_file, refusal) in rows {
-        let path = path(alloc, text)?;
-        let reply = if is_file {
-            play(&mut plain, alloc, Op::Remove { path })?
-        } else {
-            play(&mut plain, alloc, Op::RemoveDir { path })?
+    assert!(rt; makes_dir(&mut plain, alloc, b"/d", None)?);
+    assert!(rt; creates(&mut plain, alloc, b"/d/a", None)?);
+    for (text, kind, refusal) in REMOVALS {
+        let made = match kind {
+            Kind::File => removes(&mut plain, alloc, text, refusal)?,
+            Kind::Folder => removes_dir(&mut plain, alloc, text, refusal)?,
         };
-        assert_eq!(rt; reply, due(refusal));
+        assert!(rt; made);
     }
     assert_eq!(rt; plain.len(), 0);
+    Ok(())
+}
+
+/// The root in every place where only an entry can stand.
+#[test]
+fn the_root_is_no_entry(rt: HostRuntime) -> Result<(), Fail> {
+    let alloc = rt.alloc();
+    let mut plain = Plain::new(alloc, TWO_PAGES);
+    assert!(rt; creates(&mut plain, alloc, b"/", Some(Refusal::RootFixed))?);
+    assert!(rt; makes_dir(&mut plain, alloc, b"/", Some(Refusal::RootFixed))?);
+    assert!(rt; truncates(&mut plain, alloc, (b"/", 1), Some(Refusal::NotAFile))?);
+    Ok(())
+}
+
+/// Whether the copy of an operation is the operation.
+fn is_same(alloc: Global, op: &Op) -> Result<bool, Fail> {
+    let copied = op.copy(alloc)?;
+    Ok(copied == *op)
+}
+
+#[test]
+fn an_operation_is_copied_as_it_is(rt: HostRuntime) -> Result<(), Fail> {
+    let alloc = rt.alloc();
+    let path = path(alloc, b"/a/b")?;
+    let op = Op::Truncate { path, length: 7 };
+    let same = is_same(alloc, &op)?;
+    assert!(rt; same);
     Ok(())
 }
