@@ -23,6 +23,9 @@ const MANY_PAGES: Limits = Limits {
     nodes: 65536,
 };
 
+/// The longest name that there is.
+const LONG_NAME: [u8; 255] = [b'n'; 255];
+
 fn path(alloc: Global, text: &[u8]) -> Result<Path, Fail> {
     Ok(Path::parse(alloc, text)?)
 }
@@ -342,14 +345,14 @@ fn deep_text(alloc: Global, parts: usize, part: &[u8]) -> Result<Vec<u8>, Fail> 
     Ok(text)
 }
 
-/// Makes folders below each other, so many, each of this name.
+/// Makes folders below each other, fewer than this, each of this name.
 fn makes_deep_dirs(
     plain: &mut Plain,
     alloc: Global,
-    parts: usize,
+    end: usize,
     part: &[u8],
 ) -> Result<bool, Fail> {
-    for depth in 1..parts + 1 {
+    for depth in 1..end {
         let text = deep_text(alloc, depth, part)?;
         if !makes_dir(plain, alloc, text.as_slice(), None)? {
             return Ok(false);
@@ -364,7 +367,7 @@ fn moves_to_too_many_parts_are_refused(rt: HostRuntime) -> Result<(), Fail> {
     let mut plain = Plain::new(alloc, MANY_PAGES);
     assert!(rt; makes_dir(&mut plain, alloc, b"/s", None)?);
     assert!(rt; creates(&mut plain, alloc, b"/s/x", None)?);
-    assert!(rt; makes_deep_dirs(&mut plain, alloc, 31, b"t")?);
+    assert!(rt; makes_deep_dirs(&mut plain, alloc, 32, b"t")?);
     let deep = deep_text(alloc, 32, b"t")?;
     let texts = (b"/s".as_slice(), deep.as_slice());
     assert!(rt; renames(&mut plain, alloc, texts, Some(Refusal::DeepTree))?);
@@ -372,23 +375,28 @@ fn moves_to_too_many_parts_are_refused(rt: HostRuntime) -> Result<(), Fail> {
     Ok(())
 }
 
+/// The text of a path of three parts of 255 bytes, and one of this name.
+fn long_text(alloc: Global, name: &[u8]) -> Result<Vec<u8>, Fail> {
+    let mut text = deep_text(alloc, 3, &LONG_NAME)?;
+    text.push(b'/')?;
+    text.extend_from_slice(name)?;
+    Ok(text)
+}
+
 #[test]
 fn moves_to_too_many_bytes_are_refused(rt: HostRuntime) -> Result<(), Fail> {
     let alloc = rt.alloc();
     let mut plain = Plain::new(alloc, MANY_PAGES);
-    let name = [b'n'; 255];
     assert!(rt; makes_dir(&mut plain, alloc, b"/s", None)?);
     assert!(rt; creates(&mut plain, alloc, b"/s/x", None)?);
-    assert!(rt; makes_deep_dirs(&mut plain, alloc, 3, &name)?);
+    assert!(rt; makes_deep_dirs(&mut plain, alloc, 4, &LONG_NAME)?);
 
-    // 768 bytes, and a name of 254: with `/x` behind it that is one byte too many.
-    let mut text = deep_text(alloc, 3, &name)?;
-    text.push(b'/')?;
-    text.extend_from_slice(&name[..254])?;
+    // 768 bytes, and a name of 254 with its slash: with `/x` behind it that is one byte too many.
+    let text = long_text(alloc, &LONG_NAME[..254])?;
     let texts = (b"/s".as_slice(), text.as_slice());
     assert!(rt; renames(&mut plain, alloc, texts, Some(Refusal::DeepTree))?);
-    let shorter = &text.as_slice()[..1022];
-    assert!(rt; renames(&mut plain, alloc, (b"/s", shorter), None)?);
+    let text = long_text(alloc, &LONG_NAME[..253])?;
+    assert!(rt; renames(&mut plain, alloc, (b"/s", text.as_slice()), None)?);
     assert_eq!(rt; plain.len(), 5);
     Ok(())
 }
