@@ -1,10 +1,14 @@
 pub mod Additions
 pub mod Beginnings
 pub mod ChildLaws
+pub mod Depths
 pub mod Growth
 pub mod Kept
+pub mod MoveChecks
 pub mod Newness
+pub mod Places
 pub mod Positions
+pub mod Renamed
 pub mod Shapes
 pub mod Shrinking
 pub mod Steps

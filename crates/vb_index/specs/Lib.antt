@@ -1,3 +1,4 @@
 pub mod Indexes
+pub mod Moves
 pub mod Nodes
 pub mod Tables

@@ -9,6 +9,8 @@ ghost use Rattle.vb_tree.specs.Refusals.{refuse_new, refuse_missing};
 ghost use Rattle.vb_index.specs.Nodes.{root_held, refs_at, held_at, holds_folder, child_of, slot_at, nodes_in, pages_in, IsHeld};
 ghost use Rattle.vb_index.specs.Indexes.{shape_of, shape_of_entry, HasShapeOf, IsAnswer, IsLeastFree, new_held};
 
+mod renames;
+
 use crate::grow::{newly_held, place_for};
 use crate::table::Table;
 use crate::walk::slot_of;

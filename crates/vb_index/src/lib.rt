@@ -7,6 +7,7 @@ mod fresh;
 mod grow;
 mod held;
 mod index;
+mod moving;
 mod table;
 mod walk;
 

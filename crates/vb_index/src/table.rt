@@ -6,6 +6,8 @@ ghost use Rattle.vb_index.specs.Indexes.{IsLeastFree};
 ghost use Rattle.vb_tree.specs.Trees.{pages_of_length};
 ghost use Rattle.vb_tree.specs.Refusals.{longest_file};
 
+mod places;
+
 use crate::children::{Entries, add_child, drop_child};
 use crate::fresh::{fresh_children, fresh_nodes, fresh_slots};
 use crate::{Bytes, Held};
