@@ -2,11 +2,15 @@ pub mod Additions
 pub mod Beginnings
 pub mod ChildLaws
 pub mod Copying
+pub mod Depths
 pub mod Growth
 pub mod Kept
 pub mod Leaving
+pub mod MoveChecks
 pub mod Newness
+pub mod Places
 pub mod Positions
+pub mod Renamed
 pub mod Resizing
 pub mod Shapes
 pub mod Shrinking

@@ -45,7 +45,7 @@ at_same nodes slot k new l e = ap (held_at (set nodes slot new)) e ∙ get_or-se
 pub at_other : (nodes : List (Option Held)) (slot k : ℕ) (new : Option Held) → (k == slot) ≡ false → held_at (set nodes slot new) k ≡ held_at nodes k
 at_other nodes slot k new e = get_or-set_other nodes slot k new None (λ is. false≢true (sym e ∙ (Decides-eqb k slot).1 is))
 
-zero_apart : (slot : ℕ) → 0 < slot → (0 == slot) ≡ false
+pub zero_apart : (slot : ℕ) → 0 < slot → (0 == slot) ≡ false
 zero_apart slot h = elim (cases_Bool (0 == slot)) [ inr e ↦ e | inl e ↦ absurd (let is = (Decides-eqb 0 slot).0 e in omega arith) ]
 
 -- a node in a free slot

@@ -11,6 +11,8 @@ ghost use Rattle.vb_index.specs.Indexes.{shape_of, shape_of_entry, HasShapeOf, I
 ghost use Rattle.vb_index.specs.Changes.{removal_of, resized, with_ref};
 ghost use Rattle.vb_index.specs.declared.held.Held.{Held};
 
+mod renames;
+
 use crate::grow::{newly_held, place_for};
 use crate::shrink::leaving;
 use crate::sizes::resizable;

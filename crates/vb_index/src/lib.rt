@@ -8,6 +8,7 @@ mod fresh;
 mod grow;
 mod held;
 mod index;
+mod moving;
 mod shrink;
 mod sizes;
 mod table;

@@ -7,6 +7,8 @@ ghost use Rattle.vb_index.specs.Changes.{resized, with_ref, IsBare};
 ghost use Rattle.vb_index.specs.declared.held.Held.{Held};
 ghost use Rattle.vb_tree.specs.Refusals.{longest_file};
 
+mod places;
+
 use crate::children::{Entries, add_child, drop_child};
 use crate::copies::{copy_nodes, entries_of};
 use crate::fresh::{fresh_children, fresh_nodes, fresh_slots};

@@ -1,0 +1,36 @@
+use Rattle.std.proofs.Common.{◌≡◌, ℕ, List, sym, ap, ◌∙◌, subst}
+use Rattle.vb_tree.specs.Trees.{name_of}
+use Rattle.vb_index.specs.Indexes.{IndexState}
+use Rattle.vb_index.specs.Moves.{with_place, without_slot, renamed_nodes, replaced_slot, MayPlace, MayReplace}
+use Rattle.vb_index.proofs.Renamed.{may-place, may-replace, renamed-is, replaced-is}
+use Rattle.vb_index.proofs.index.Index.rename.Goals as goal
+
+pub put_in_place-requires-clause-free : goal.put_in_place-requires-clause-free
+put_in_place-requires-clause-free c = λ none.
+    let P : List ℕ → Type 0 = λ name. MayPlace c.self.inside.table c.in_ok-slot.slot c.in_ok-place.place.folder name in
+    subst P (sym (c.last_of-name.ensures ∙ ap name_of c.parts.ensures))
+    (may-place c.self.inside.table c.args.source.now c.args.target.now c.in_ok-slot.slot c.in_ok-place.place.folder c.in_ok-place.place.replaced c.in_ok-slot.ensures.source c.in_ok-slot.ensures.found c.in_ok-place.ensures.found none)
+
+pub put_in_place-requires-clause-taken : goal.put_in_place-requires-clause-taken
+put_in_place-requires-clause-taken c = λ other is.
+    let P : List ℕ → Type 0 = λ name. MayReplace c.self.inside.table c.in_ok-slot.slot other c.in_ok-place.place.folder name in
+    subst P (sym (c.last_of-name.ensures ∙ ap name_of c.parts.ensures))
+    (may-replace c.self.inside.table c.args.source.now c.args.target.now c.in_ok-slot.slot c.in_ok-place.place.folder c.in_ok-place.place.replaced other c.in_ok-slot.ensures.source c.in_ok-slot.ensures.target (sym c.eq.ensures ∙ c.if-eq.false) c.in_ok-slot.ensures.found c.in_ok-place.ensures.found is)
+
+pub returns-clause-nodes : goal.returns-clause-nodes
+returns-clause-nodes c =
+    let nodes : c.args.self.now.nodes ≡ c.self.inside.table = ap (λ (s : IndexState). s.nodes) (sym c.self.view_is) in
+    let limits : c.args.self.now.limits ≡ c.self.inside.limits = ap (λ (s : IndexState). s.limits) (sym c.self.view_is) in
+    let name : c.last_of-name.result.now ≡ name_of c.args.target.now = c.last_of-name.ensures ∙ ap name_of c.parts.ensures in
+    let is : c.put_in_place.new.table ≡ renamed_nodes c.args.source.now c.args.target.now c.args.self.now.nodes =
+    c.in_ok-put_in_place.ensures.ok
+    ∙ ap (λ n. with_place (without_slot c.self.inside.table c.in_ok-place.place.replaced) c.in_ok-slot.slot c.in_ok-place.place.folder n) name
+    ∙ sym (renamed-is c.self.inside.table c.args.source.now c.args.target.now c.in_ok-slot.slot c.in_ok-place.place.folder c.in_ok-place.place.replaced c.in_ok-slot.ensures.target (sym c.eq.ensures ∙ c.if-eq.false) c.in_ok-slot.ensures.found c.in_ok-place.ensures.found)
+    ∙ ap (renamed_nodes c.args.source.now c.args.target.now) (sym nodes) in
+    ap (λ ns. record { limits = c.self.inside.limits; nodes = ns }) is ∙ ap (λ l. record { limits = l; nodes = renamed_nodes c.args.source.now c.args.target.now c.args.self.now.nodes }) (sym limits)
+
+pub returns-clause-replaced : goal.returns-clause-replaced
+returns-clause-replaced c =
+    let nodes : c.args.self.now.nodes ≡ c.self.inside.table = ap (λ (s : IndexState). s.nodes) (sym c.self.view_is) in
+    replaced-is c.self.inside.table c.args.source.now c.args.target.now c.in_ok-slot.slot c.in_ok-place.place.folder c.in_ok-place.place.replaced c.in_ok-slot.ensures.target (sym c.eq.ensures ∙ c.if-eq.false) c.in_ok-place.ensures.found
+    ∙ ap (replaced_slot c.args.source.now c.args.target.now) (sym nodes)
