@@ -5,6 +5,9 @@ pub mod Depths
 pub mod Growth
 pub mod Kept
 pub mod MoveChecks
+pub mod MovedShapes
+pub mod MovedTrees
+pub mod MovedWalks
 pub mod Newness
 pub mod Places
 pub mod Positions
