@@ -100,7 +100,7 @@ mapped_some None = refl
 mapped_some (Some e) = refl
 
 -- an entry stands where a path that isn't the root leads to a shape
-entry-some : (nodes : List (Option Held)) (tree : List TreeEntry) (path : List (List ℕ)) → HasShapeOf nodes tree → is_root path ≡ false → is_some (entry_at path tree) ≡ is_some (shape_at nodes path)
+pub entry-some : (nodes : List (Option Held)) (tree : List TreeEntry) (path : List (List ℕ)) → HasShapeOf nodes tree → is_root path ≡ false → is_some (entry_at path tree) ≡ is_some (shape_at nodes path)
 entry-some nodes tree path shape below =
     sym (mapped_some (entry_at path tree))
     ∙ sym (ap (λ v. is_some (cond v (Some (record { kind = Folder; len = 0 })) (option_map shape_of_entry (entry_at path tree)))) below)

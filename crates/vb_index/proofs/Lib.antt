@@ -7,6 +7,9 @@ pub mod Growth
 pub mod Kept
 pub mod Leaving
 pub mod MoveChecks
+pub mod MovedShapes
+pub mod MovedTrees
+pub mod MovedWalks
 pub mod Newness
 pub mod Places
 pub mod Positions

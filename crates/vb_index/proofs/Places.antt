@@ -141,7 +141,7 @@ none_same nodes slot held folder name q l holds = elim (cases_Bool (q == slot)) 
 ]
 
 -- the totals as before
-sums_same : (nodes : List (Option Held)) (slot : ℕ) (held : Held) (folder : ℕ) (name : List ℕ) → slot < length nodes → held_at nodes slot ≡ Some held → (nodes_in (set nodes slot (Some (placed_in folder name held))) ≡ nodes_in nodes) × (pages_in (set nodes slot (Some (placed_in folder name held))) ≡ pages_in nodes)
+pub sums_same : (nodes : List (Option Held)) (slot : ℕ) (held : Held) (folder : ℕ) (name : List ℕ) → slot < length nodes → held_at nodes slot ≡ Some held → (nodes_in (set nodes slot (Some (placed_in folder name held))) ≡ nodes_in nodes) × (pages_in (set nodes slot (Some (placed_in folder name held))) ≡ pages_in nodes)
 sums_same nodes slot held folder name l holds =
     let n = nodes_in-set nodes slot (Some (placed_in folder name held)) l in
     let p = pages_in-set nodes slot (Some (placed_in folder name held)) l in

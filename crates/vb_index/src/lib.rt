@@ -23,4 +23,6 @@ pub use vb_path::{Bytes, Path};
 pub use vb_tree::{Kind, Limits, Refusal};
 
 #[cfg(test)]
+mod rename_tests;
+#[cfg(test)]
 mod tests;

@@ -1,7 +1,9 @@
-use Rattle.std.proofs.Common.{◌≡◌, ℕ, List, sym, ap, ◌∙◌, subst}
+use Rattle.std.proofs.Common.{◌≡◌, ℕ, List, Option, sym, ap, ◌∙◌, subst}
+use Rattle.vb_index.specs.declared.held.Held.{Held}
 use Rattle.vb_tree.specs.Trees.{name_of}
-use Rattle.vb_index.specs.Indexes.{IndexState}
+use Rattle.vb_index.specs.Indexes.{IndexState, HasShapeOf}
 use Rattle.vb_index.specs.Moves.{with_place, without_slot, renamed_nodes, replaced_slot, MayPlace, MayReplace}
+use Rattle.vb_index.proofs.MovedShapes.{renamed-shape}
 use Rattle.vb_index.proofs.Renamed.{may-place, may-replace, renamed-is, replaced-is}
 use Rattle.vb_index.proofs.index.Index.rename.Goals as goal
 
@@ -34,3 +36,10 @@ returns-clause-replaced c =
     let nodes : c.args.self.now.nodes ≡ c.self.inside.table = ap (λ (s : IndexState). s.nodes) (sym c.self.view_is) in
     replaced-is c.self.inside.table c.args.source.now c.args.target.now c.in_ok-slot.slot c.in_ok-place.place.folder c.in_ok-place.place.replaced c.in_ok-slot.ensures.target (sym c.eq.ensures ∙ c.if-eq.false) c.in_ok-place.ensures.found
     ∙ ap (replaced_slot c.args.source.now c.args.target.now) (sym nodes)
+
+pub returns-clause-tree : goal.returns-clause-tree
+returns-clause-tree c = λ tree is_tree shape.
+    let nodes : c.args.self.now.nodes ≡ c.self.inside.table = ap (λ (s : IndexState). s.nodes) (sym c.self.view_is) in
+    let P : List (Option Held) → Type 0 = λ ns. HasShapeOf ns tree in
+    renamed-shape c.self.inside.table c.put_in_place.new.table tree c.args.source.now c.args.target.now c.in_ok-slot.slot c.in_ok-place.place.folder c.in_ok-place.place.replaced (subst P nodes shape) is_tree c.in_ok-slot.ensures.source c.in_ok-slot.ensures.target (sym c.eq.ensures ∙ c.if-eq.false) c.in_ok-slot.ensures.found c.in_ok-place.ensures.found
+    (c.in_ok-put_in_place.ensures.ok ∙ ap (λ n. with_place (without_slot c.self.inside.table c.in_ok-place.place.replaced) c.in_ok-slot.slot c.in_ok-place.place.folder n) (c.last_of-name.ensures ∙ ap name_of c.parts.ensures))
