@@ -1,2 +1,4 @@
 pub mod NodeLaws
 pub mod Climbs
+pub mod Judging
+pub mod TreeFacts
