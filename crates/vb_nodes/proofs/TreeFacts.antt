@@ -1,7 +1,6 @@
 -- What holds of the slots of nodes that are a tree.
-use Rattle.std.proofs.Common.{◌≡◌, ℕ, zero, suc, ◌+◌, ◌<◌, ◌≤◌, Bool, true, false, not, cond, ◌&&◌, ◌||◌, ◌==◌, List, [], ◌∷◌, ◌++◌, length, take, get_or, Option, Some, None, refl, sym, ap, subst, ◌∙◌, arith}
-use Rattle.std.proofs.lemmas.Bool.{and_parts, cases_Bool, false≢true, eqb-true, not-false, ltb-false, or_parts}
-use Rattle.std.proofs.lemmas.Bool.Decides.{Decides-eqb}
+use Rattle.std.proofs.Common.{◌≡◌, ℕ, zero, suc, ◌+◌, ◌<◌, ◌≤◌, Bool, true, false, not, cond, ◌||◌, ◌==◌, nat_lt, List, [], ◌∷◌, ◌++◌, length, Option, None, inl, inr, refl, sym, ap, ◌∙◌, arith}
+use Rattle.std.proofs.lemmas.Bool.{and_parts, cases_Bool, cases_lt, false≢true, eqb-true, ltb-false}
 use Rattle.std.proofs.lemmas.List.{append-nil, length-append}
 use Rattle.vb_block.specs.declared.why.Why.{Why}
 use Rattle.vb_block.specs.declared.why.Why.TheVariants.{Root, Parent, Cycle, SameName, Deep}
@@ -51,7 +50,7 @@ entry_from_none nodes slot e =
       second false b h = h
 
       few : (path : List (List ℕ)) → is_deep path ≡ false → length path ≤ 32
-      few path h = ltb-false 32 (length path) (second _ _ h)
+      few path h = ltb-false 32 (length path) (second (nat_lt 1024 (length (text_of_path path))) (nat_lt 32 (length path)) h)
 
 -- the entry in a slot that isn't free, of a tree
 pub entry-of-tree : (nodes : List Node) (slot : ℕ) → IsNodeTree nodes → 0 < slot → slot < length nodes → is_free (node_at nodes slot).kind ≡ false → IsEntryOf nodes slot
@@ -110,3 +109,10 @@ depth-above nodes slot above =
     let m = enough-suc.0 in
     let e : depth_of nodes slot ≡ length (path_up nodes (suc m) slot) = ap (λ (n : ℕ). length (path_up nodes n slot)) enough-suc.1 in
     omega (arith, e, length-append (path_up nodes m (parent_in nodes slot)) (own_part nodes slot), one_part nodes slot above)
+
+-- a slot whose path has a part isn't the root's
+pub above-root : (nodes : List Node) (slot : ℕ) → IsNodeTree nodes → 0 < depth_of nodes slot → 0 < slot
+above-root nodes slot tree deep = elim (cases_lt 0 slot) [
+  | inl above ↦ above
+  | inr none ↦ absurd (let is : slot ≡ 0 = omega arith in let flat : depth_of nodes slot ≡ 0 = ap (depth_of nodes) is ∙ depth-of-root nodes (root-of-tree nodes tree).1 in omega arith)
+]

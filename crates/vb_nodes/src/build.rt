@@ -1,10 +1,11 @@
 // Makes an index of the nodes of a tree: the nodes are put one depth after the other.
-ghost use Rattle.std.specs.Prelude.{◌≡◌, ◌+◌, ◌<◌, ◌≤◌, length, replicate, IfOk, OnOk};
+ghost use Rattle.std.specs.Prelude.{◌≡◌, ◌+◌, ◌<◌, false, length, replicate, IfOk, OnOk};
 ghost use Rattle.vb_tree.specs.Trees.{data_pages_of, AreInLimits};
-ghost use Rattle.vb_nodes.specs.Paths.{enough_steps};
+ghost use Rattle.vb_inode.specs.Nodes.{is_free};
+ghost use Rattle.vb_nodes.specs.Paths.{enough_steps, node_at};
 ghost use Rattle.vb_nodes.specs.Ascents.{AreAscents};
 ghost use Rattle.vb_nodes.specs.Holdings.{blank_ref, held_of};
-ghost use Rattle.vb_nodes.specs.Building.{HoldsPlaced, IsNodeTree};
+ghost use Rattle.vb_nodes.specs.Building.{depth_of, HoldsPlaced, IsNodeTree};
 
 use crate::ascents::Ascent;
 use crate::checks::is_free;
@@ -44,7 +45,24 @@ fn blank_refs(alloc: Global, length: u64) -> Result<Refs, AllocError>
     Ok(refs)
 }
 
-/// Puts the node of a slot where it is the turn of its depth.
+/// Puts the node of a slot, those of lower depths and of lower slots at its depth being there.
+fn put_node(alloc: Global, index: &mut Index, nodes: &[Node], slot: u32) -> Result<(), AllocError>
+    requires below_root { 0 < slot }
+    requires there { slot < length nodes.now }
+    requires used { is_free (node_at nodes.now slot).kind ≡ false }
+    requires tree { IsNodeTree nodes.now }
+    requires held { HoldsPlaced nodes.now (depth_of nodes.now slot) slot index.old.nodes }
+    ensures held { OnOk result
+        (HoldsPlaced nodes.now (depth_of nodes.now slot) (slot + 1) index.new.nodes) }
+    ensures limits { OnOk result (index.new.limits ≡ index.old.limits) }
+{
+    let node = &nodes[slot as usize];
+    let copied = copy_of(alloc, node)?;
+    let refs = blank_refs(alloc, node.length)?;
+    index.put(alloc, copied, refs)
+}
+
+/// Puts the node of a slot where its depth is this one.
 fn put_due(
     alloc: Global,
     index: &mut Index,
@@ -61,13 +79,11 @@ fn put_due(
     ensures held { OnOk result (HoldsPlaced nodes.now depth (slot + 1) index.new.nodes) }
     ensures limits { OnOk result (index.new.limits ≡ index.old.limits) }
 {
-    let node = &nodes[slot as usize];
-    if is_free(node.kind) || ascents[slot as usize].parts != depth {
+    let ascent = ascents[slot as usize];
+    if ascent.parts != depth || is_free(nodes[slot as usize].kind) {
         return Ok(());
     }
-    let copied = copy_of(alloc, node)?;
-    let refs = blank_refs(alloc, node.length)?;
-    index.put(alloc, copied, refs)
+    put_node(alloc, index, nodes, slot)
 }
 
 /// Puts the nodes of one depth.
