@@ -1,0 +1,7 @@
+pub mod Paths
+pub mod Faults
+pub mod Holdings
+pub mod Claiming
+pub mod Ascents
+pub mod Naming
+pub mod Building
