@@ -1,0 +1,3 @@
+pub mod CallsMade
+pub mod EmptyNodes
+pub mod Homes
