@@ -4,9 +4,12 @@
 mod format_error;
 mod formatting;
 mod new_homes;
+mod used_places;
+mod view;
 
 pub use format_error::FormatError;
 pub use formatting::format;
+pub use view::{Mounted, View};
 
 #[cfg(test)]
 mod tests;
