@@ -1,3 +1,5 @@
 pub mod CallsMade
 pub mod EmptyNodes
+pub mod EmptyStores
 pub mod Homes
+pub mod MadeEmpty

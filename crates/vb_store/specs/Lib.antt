@@ -1,3 +1,4 @@
+pub mod EmptyStores
 pub mod Formats
 pub mod Runs
 pub mod Views
