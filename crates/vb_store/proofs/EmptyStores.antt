@@ -6,7 +6,7 @@ use Rattle.vb_disk.specs.Cells.{candidate_at, read_of, synced_cell}
 use Rattle.vb_disk.specs.Crashes.{CellMayCrashTo, MayCrashTo}
 use Rattle.vb_disk.specs.States.{DiskState, read_at}
 use Rattle.vb_disk.proofs.StatesOf.{same_state}
-use Rattle.vb_head.specs.Heads.{IsHead, head_page}
+use Rattle.vb_head.specs.Heads.{IsHead, IsInRange, head_page}
 use Rattle.vb_journal.specs.Progress.{IsAtRest}
 use Rattle.vb_journal.specs.Shown.{Shows}
 use Rattle.vb_journal.proofs.Heads.{good_of-head_page, greater-same}
@@ -69,21 +69,21 @@ IsMadeEmpty-stands folder blocks nodes old new after made crash =
 
 -- ---- what is shown
 
-pub IsHead-made_head : (folder : List ℕ) (blocks nodes : ℕ) → CanFormat folder blocks nodes → length folder ≡ 16 → IsHead (made_head folder blocks nodes)
-IsHead-made_head folder blocks nodes can long = record {
-  range = record {
-    blocks = can.at_most;
-    nodes_low = can.nodes_low;
-    nodes_high = can.nodes_high;
-    space = can.space;
-    id = can.named;
-    sequence_low = omega arith;
-    sequence_high = omega arith;
-    epoch = omega arith;
-    count = omega arith;
-  };
-  id_length = long;
+pub IsInRange-made_head : (folder : List ℕ) (blocks nodes : ℕ) → CanFormat folder blocks nodes → IsInRange (made_head folder blocks nodes)
+IsInRange-made_head folder blocks nodes can = record {
+  blocks = can.at_most;
+  nodes_low = can.nodes_low;
+  nodes_high = can.nodes_high;
+  space = can.space;
+  id = can.named;
+  sequence_low = omega arith;
+  sequence_high = omega arith;
+  epoch = omega arith;
+  count = omega arith;
 }
+
+pub IsHead-made_head : (folder : List ℕ) (blocks nodes : ℕ) → CanFormat folder blocks nodes → length folder ≡ 16 → IsHead (made_head folder blocks nodes)
+IsHead-made_head folder blocks nodes can long = record { range = IsInRange-made_head folder blocks nodes can; id_length = long }
 
 pub Shows-empty : (folder : List ℕ) (blocks nodes : ℕ) (d : DiskState) → CanFormat folder blocks nodes → length folder ≡ 16 → HoldsEmptyStore folder blocks nodes d → Shows (read_at d) (made_head folder blocks nodes) 0 empty_home
 Shows-empty folder blocks nodes d can long holds =

@@ -3,3 +3,4 @@ pub mod EmptyNodes
 pub mod EmptyStores
 pub mod Homes
 pub mod MadeEmpty
+pub mod EmptyViews

@@ -6,6 +6,7 @@ ghost use Rattle.vb_journal.specs.Progress.{IsAtRest};
 ghost use Rattle.vb_journal.specs.Shown.{Shows};
 ghost use Rattle.vb_store.specs.EmptyStores.{empty_home, HoldsEmptyStore, IsJournalWhole, IsMadeEmpty};
 ghost use Rattle.vb_store.specs.Formats.{format_calls, made_head, CanFormat};
+ghost use Rattle.vb_store.specs.Views.{empty_index, CanView};
 
 /// The calls of a format leave the empty store, whatever stood on the disk, and each crash leaves all as it is.
 pub fn a_format_leaves_an_empty_store()
@@ -27,4 +28,10 @@ pub fn an_empty_store_is_shown()
         → HoldsEmptyStore id blocks nodes d → Shows (read_at d) (made_head id blocks nodes) 0 empty_home }
     ensures crash { (id : List ℕ) (blocks nodes : ℕ) (old new : DiskState) → HoldsEmptyStore id blocks nodes old
         → MayCrashTo old new → HoldsEmptyStore id blocks nodes new }
+{}
+
+/// The nodes of an empty store are those of a view.
+pub fn an_empty_store_can_be_viewed()
+    ensures { (id : List ℕ) (blocks nodes : ℕ) → CanFormat id blocks nodes
+        → CanView (made_head id blocks nodes) (empty_index (made_head id blocks nodes)) }
 {}

@@ -8,7 +8,9 @@ mod new_homes;
 mod used_places;
 mod view;
 
-pub use empty_stores::{a_format_leaves_an_empty_store, an_empty_store_is_shown};
+pub use empty_stores::{
+    a_format_leaves_an_empty_store, an_empty_store_can_be_viewed, an_empty_store_is_shown,
+};
 pub use format_error::FormatError;
 pub use formatting::format;
 pub use view::{Mounted, View};
