@@ -4,3 +4,4 @@ pub mod EmptyStores
 pub mod Homes
 pub mod MadeEmpty
 pub mod EmptyViews
+pub mod PlacesUsed
