@@ -1,0 +1,4 @@
+pub mod EmptyStores
+pub mod Formats
+pub mod Runs
+pub mod Views
