@@ -1,11 +1,14 @@
 pub mod Additions
+pub mod Ascending
 pub mod Beginnings
 pub mod ChildLaws
 pub mod Copying
 pub mod Growth
 pub mod Kept
 pub mod Leaving
+pub mod Named
 pub mod Newness
+pub mod PathOrder
 pub mod Positions
 pub mod Resizing
 pub mod Shapes

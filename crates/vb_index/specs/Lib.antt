@@ -1,4 +1,5 @@
 pub mod Changes
 pub mod Indexes
+pub mod Listings
 pub mod Nodes
 pub mod Tables
