@@ -65,7 +65,7 @@ some_of f None h = h
 some_of f (Some x) h = refl
 
 -- an entry stands in the folder of its path
-entry_path : (folder path : List (List ℕ)) → is_entry_of folder path ≡ true → path ≡ folder ++ name_of path ∷ []
+pub entry_path : (folder path : List (List ℕ)) → is_entry_of folder path ≡ true → path ≡ folder ++ name_of path ∷ []
 entry_path folder path h =
     let both = and_parts (not (is_root path)) (same_path folder (parent_of path)) h in
     let below : 0 < length path = has_parts path (elim (cases_Bool (is_root path)) [ inr r ↦ r | inl r ↦ absurd (false≢true (sym (ap not r) ∙ both.0)) ]) in
@@ -105,7 +105,7 @@ some_in folder q (x ∷ xs) e found is = elim (cases_Bool (same_path q x.path)) 
 ]
 
 -- what stands at a name in a folder is an entry of it
-entry_of-snoc : (folder : List (List ℕ)) (name : List ℕ) → is_entry_of folder (folder ++ name ∷ []) ≡ true
+pub entry_of-snoc : (folder : List (List ℕ)) (name : List ℕ) → is_entry_of folder (folder ++ name ∷ []) ≡ true
 entry_of-snoc folder name =
     let split = path-split (folder ++ name ∷ []) (omega (arith, length-append folder (name ∷ []))) in
     let same = snoc-inj folder (parent_of (folder ++ name ∷ [])) name (name_of (folder ++ name ∷ [])) split in

@@ -1,4 +1,5 @@
 pub mod Additions
+pub mod Ascending
 pub mod Beginnings
 pub mod ChildLaws
 pub mod Copying
@@ -10,7 +11,9 @@ pub mod MoveChecks
 pub mod MovedShapes
 pub mod MovedTrees
 pub mod MovedWalks
+pub mod Named
 pub mod Newness
+pub mod PathOrder
 pub mod Places
 pub mod Positions
 pub mod Renamed

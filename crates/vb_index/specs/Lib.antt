@@ -1,5 +1,6 @@
 pub mod Changes
 pub mod Indexes
+pub mod Listings
 pub mod Moves
 pub mod Nodes
 pub mod Tables

@@ -1,19 +1,21 @@
 // The index: limits, and nodes with the references of their pages.
-ghost use Rattle.std.specs.Prelude.{◌≡◌, ◌++◌, ◌-◌, ◌<◌, true, replicate, length, unwrap_or, slice_set, [], ◌∷◌, List, ℕ, Option, Some, None, IfOk, OnOk, OnErr};
+ghost use Rattle.std.specs.Prelude.{◌≡◌, ◌++◌, ◌-◌, ◌<◌, true, replicate, length, unwrap_or, slice_set, [], ◌∷◌, map, List, ℕ, Option, Some, None, IfOk, OnOk, OnErr};
 ghost use Rattle.std.specs.Option.{option_copied, option_map, option_or};
 ghost use Rattle.std.specs.Result.{result_err};
 ghost use Rattle.vb_tree.specs.declared.reply.Refusal.{Refusal};
 ghost use Rattle.vb_tree.specs.declared.tree.TreeEntry.{TreeEntry};
-ghost use Rattle.vb_tree.specs.Trees.{insert_entry, with_bytes_at, without, parent_of, name_of, AreInLimits, IsTree};
+ghost use Rattle.vb_tree.specs.Trees.{insert_entry, with_bytes_at, without, parent_of, name_of, names_in, AreInLimits, IsTree};
 ghost use Rattle.vb_tree.specs.Refusals.{refuse_new, refuse_missing, refuse_unless_file, refuse_resize, refusal_of};
 ghost use Rattle.vb_index.specs.Nodes.{root_held, refs_at, held_at, holds_folder, child_of, slot_at, nodes_in, pages_in, IsHeld};
 ghost use Rattle.vb_index.specs.Indexes.{shape_of, shape_of_entry, HasShapeOf, IsAnswer, IsLeastFree, new_held};
 ghost use Rattle.vb_index.specs.Changes.{removal_of, resized, with_ref};
+ghost use Rattle.vb_index.specs.Listings.{name_at, AreEntries, AreInPathOrder};
 ghost use Rattle.vb_index.specs.declared.held.Held.{Held};
 
 mod renames;
 
 use crate::grow::{newly_held, place_for};
+use crate::listing::{Slots, in_path_order};
 use crate::shrink::leaving;
 use crate::sizes::resizable;
 use crate::table::Table;
@@ -98,6 +100,24 @@ impl Index {
             Some(held) => Some(&held.node),
             None => None,
         }
+    }
+
+    /// The slots of a folder's entries, in byte order of their names. What holds no folder has none.
+    pub fn children(&self, alloc: Global, folder: u32) -> Result<Slots, AllocError>
+        ensures slots { IfOk result (λ slots. AreEntries self.now.nodes folder slots) }
+        ensures names { (tree : List TreeEntry) (path : List (List ℕ)) → IsTree tree
+            → HasShapeOf self.now.nodes tree → slot_at self.now.nodes path ≡ Some folder
+            → IfOk result (λ slots. map (name_at self.now.nodes) slots ≡ names_in path tree) }
+    {
+        self.table.children(alloc, folder)
+    }
+
+    /// The slots of all nodes in path order, the root's first.
+    pub fn in_path_order(&self, alloc: Global) -> Result<Slots, AllocError>
+        ensures { (tree : List TreeEntry) → IsTree tree → HasShapeOf self.now.nodes tree
+            → IfOk result (λ slots. AreInPathOrder self.now.nodes tree slots) }
+    {
+        in_path_order(alloc, &self.table)
     }
 
     /// Adds an empty file or a folder at a path, in the least slot that is free. It answers the slot.

@@ -4,6 +4,7 @@ ghost use Rattle.std.specs.Option.{option_copied, option_and_then};
 ghost use Rattle.vb_index.specs.Nodes.{root_held, held_at, holds_folder, refs_at, child_of, nodes_in, pages_in, IsHeld, IsTable};
 ghost use Rattle.vb_index.specs.Indexes.{IsLeastFree};
 ghost use Rattle.vb_index.specs.Changes.{resized, with_ref, IsBare};
+ghost use Rattle.vb_index.specs.Listings.{AreEntries};
 ghost use Rattle.vb_index.specs.declared.held.Held.{Held};
 ghost use Rattle.vb_tree.specs.Refusals.{longest_file};
 
@@ -12,6 +13,7 @@ mod places;
 use crate::children::{Entries, add_child, drop_child};
 use crate::copies::{copy_nodes, entries_of};
 use crate::fresh::{fresh_children, fresh_nodes, fresh_slots};
+use crate::listing::{Slots, slots_of};
 use crate::sizes::{replace_in_slot, resize_slot};
 use crate::{Bytes, Held, NodeKind, Ref};
 use std::alloc::{AllocError, Global};
@@ -142,6 +144,17 @@ impl Table {
         ensures { IsTrue result ↔ IsBare self.now slot }
     {
         self.children[slot as usize].is_empty()
+    }
+
+    /// The slots of a folder's entries, in byte order of their names.
+    pub fn children(&self, alloc: Global, folder: u32) -> Result<Slots, AllocError>
+        ensures slots { IfOk result (λ slots. AreEntries self.now folder slots) }
+        ensures table { IsTable self.now }
+    {
+        match self.children.get(folder as usize) {
+            Some(entries) => slots_of(alloc, entries),
+            None => Ok(Slots::new(alloc)),
+        }
     }
 
     /// Gives a file another length, and one reference for each page.
