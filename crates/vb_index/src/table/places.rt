@@ -7,10 +7,11 @@ ghost use Rattle.vb_index.specs.declared.held.Held.{Held};
 ghost use Rattle.vb_index.specs.Nodes.{held_at, holds_folder, child_of, IsTable};
 ghost use Rattle.vb_index.specs.Moves.{with_place, MayPlace, MayReplace};
 
-use super::{Table, held_in, pages_of};
+use super::{Table, held_in};
 use crate::children::{Entries, add_child, drop_child, reassign_child};
 use crate::{Bytes, Held, NodeKind};
 use std::alloc::{AllocError, Global};
+use vb_tree::pages_of;
 
 impl Table {
     /// The entries of a folder: their names, and their slots.

@@ -10,9 +10,6 @@ use Rattle.vb_index.proofs.Tables.{folder_in, among_totals}
 use Rattle.vb_index.proofs.Places.{Moves, Replaces, may-replaces, replaces-moves, kept-replace, taken-in}
 use Rattle.vb_index.proofs.table.Table.replace.Goals as goal
 
-pub pages_of-requires : goal.pages_of-requires
-pages_of-requires c = (c.self.invariant.table.fits c.args.other c.in-Some-held_in.gone.now (sym c.in-Some-held_in.ensures)).short
-
 pub reassign_child-requires-clause-in_table : goal.reassign_child-requires-clause-in_table
 reassign_child-requires-clause-in_table c =
     let P : List (Option Held) → Type 0 = λ nodes. MayReplace nodes c.args.slot c.args.other c.args.folder c.args.name in
@@ -52,5 +49,5 @@ invariant_of-self-2 c =
           ∙ ap (λ own. cond (c.args.folder == t && same_name own y) (Some c.args.slot) (tree.get (slice_cmp nat_cmp) (get_or c.self.inside.children.items t d) y)) (c.in_ok-key.ensures ∙ c.slice.ensures));
       free = c.in_ok-insert.ensures.updates.0;
       count = omega (arith, among.0, c.self.invariant.count);
-      pages = omega (arith, among.1, c.self.invariant.pages, c.pages_of.ensures.pages);
+      pages = omega (arith, among.1, c.self.invariant.pages, c.pages_of.ensures);
     })
