@@ -3,3 +3,4 @@ pub mod Climbs
 pub mod Judging
 pub mod TreeFacts
 pub mod Placing
+pub mod Forged

@@ -18,3 +18,6 @@ pub use vb_inode::Node;
 
 /// The nodes of a store, by slot.
 pub type Nodes = vb_list::Items<Node>;
+
+#[cfg(test)]
+mod tests;
