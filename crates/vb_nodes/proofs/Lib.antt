@@ -3,3 +3,5 @@ pub mod Climbs
 pub mod Judging
 pub mod TreeFacts
 pub mod Placing
+pub mod WalkLaws
+pub mod Forged

@@ -18,9 +18,9 @@ use Rattle.vb_index.specs.Nodes.{child_of, held_at, holds_folder, is_child, is_f
 use Rattle.vb_index.proofs.ChildLaws.{is_child-parts, same_name-Decides}
 use Rattle.vb_index.proofs.Positions.{position-nowhere}
 use Rattle.vb_nodes.specs.Paths.{free_node, node_at, parent_in}
-use Rattle.vb_nodes.specs.Faults.{has_lower_twin, is_entry}
+use Rattle.vb_nodes.specs.Faults.{has_lower_twin, is_entry, IsNodeTree}
 use Rattle.vb_nodes.specs.Holdings.{blank_ref, held_from, held_of}
-use Rattle.vb_nodes.specs.Building.{depth_of, is_placed, HoldsPlaced, IsNodeTree}
+use Rattle.vb_nodes.specs.Building.{depth_of, is_placed, HoldsPlaced}
 use Rattle.vb_nodes.proofs.NodeLaws.{node-of, node-past}
 use Rattle.vb_nodes.proofs.TreeFacts.{depth-above, depth-next, depth-of-root, entry-of-tree, root-of-tree}
 
@@ -123,12 +123,12 @@ placed-next nodes depth held h = record {
 -- ---- what may be put
 
 -- a folder isn't free
-folder_used : (kind : NodeKind) → is_folder_node kind ≡ true → is_free kind ≡ false
+pub folder_used : (kind : NodeKind) → is_folder_node kind ≡ true → is_free kind ≡ false
 folder_used Free e = absurd (false≢true e)
 folder_used Folder e = refl
 folder_used File e = refl
 
-held_used : (node : Node) → is_free node.kind ≡ false → held_from node ≡ Some (record { node = node; refs = replicate (data_pages_of node.length) blank_ref })
+pub held_used : (node : Node) → is_free node.kind ≡ false → held_from node ≡ Some (record { node = node; refs = replicate (data_pages_of node.length) blank_ref })
 held_used node used = ap (λ (b : Bool). cond b None (Some (let h : Held = record { node = node; refs = replicate (data_pages_of node.length) blank_ref } in h))) used
 
 -- what is put of a node is what an index holds of it
@@ -149,7 +149,7 @@ folder-placed nodes depth slot held tree h above lt used deep =
     ap holds_folder (h.each parent ∙ ap (λ (b : Bool). cond b (held_from (node_at nodes parent)) None) there ∙ held_used (node_at nodes parent) (folder_used (node_at nodes parent).kind entry.in_folder)) ∙ entry.in_folder
 
 -- a lower slot with the same parent and name is a twin
-twin_from : (nodes : List Node) (low high : ℕ) → low < high → high < length nodes → is_free (node_at nodes low).kind ≡ false → (node_at nodes low).parent ≡ parent_in nodes high → (node_at nodes low).name ≡ (node_at nodes high).name → has_lower_twin nodes high ≡ true
+pub twin_from : (nodes : List Node) (low high : ℕ) → low < high → high < length nodes → is_free (node_at nodes low).kind ≡ false → (node_at nodes low).parent ≡ parent_in nodes high → (node_at nodes low).name ≡ (node_at nodes high).name → has_lower_twin nodes high ≡ true
 twin_from nodes low high lt below used parents names =
     let p = is_entry (parent_in nodes high) (node_at nodes high).name in
     let first : not (is_free (node_at nodes low).kind) ≡ true = ap not used in
