@@ -1,7 +1,7 @@
 // What an index holds of a slot: the node, and a reference for each page of a file.
 ghost use Rattle.std.specs.Prelude.{◌≡◌, IfOk};
 
-use crate::{Bytes, Node, Refs};
+use crate::{Node, Refs};
 use std::alloc::{AllocError, Global};
 
 /// A node with the references of its pages, none for a folder.
@@ -17,14 +17,7 @@ impl Held {
         ensures { IfOk result (λ copied. copied ≡ self.now) }
     {
         Ok(Held {
-            node: Node {
-                slot: self.node.slot,
-                kind: self.node.kind,
-                parent: self.node.parent,
-                name: Bytes::of(alloc, self.node.name.slice())?,
-                length: self.node.length,
-                maps: Refs::of(alloc, self.node.maps.slice())?,
-            },
+            node: self.node.copy(alloc)?,
             refs: Refs::of(alloc, self.refs.slice())?,
         })
     }

@@ -1,4 +1,7 @@
 // What a node block says.
+ghost use Rattle.std.specs.Prelude.{◌≡◌, IfOk};
+
+use std::alloc::{AllocError, Global};
 use vb_block::Ref;
 use vb_list::Items;
 use vb_path::Bytes;
@@ -29,4 +32,20 @@ pub struct Node {
     pub length: u64,
     /// A file's map pages, in order. Each names up to 113 of the file's pages.
     pub maps: Refs,
+}
+
+impl Node {
+    /// An equal node.
+    pub fn copy(&self, alloc: Global) -> Result<Node, AllocError>
+        ensures { IfOk result (λ copied. copied ≡ self.now) }
+    {
+        Ok(Node {
+            slot: self.slot,
+            kind: self.kind,
+            parent: self.parent,
+            name: Bytes::of(alloc, self.name.slice())?,
+            length: self.length,
+            maps: Refs::of(alloc, self.maps.slice())?,
+        })
+    }
 }

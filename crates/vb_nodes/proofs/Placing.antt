@@ -19,7 +19,8 @@ use Rattle.vb_index.proofs.ChildLaws.{is_child-parts, same_name-Decides}
 use Rattle.vb_index.proofs.Positions.{position-nowhere}
 use Rattle.vb_nodes.specs.Paths.{free_node, node_at, parent_in}
 use Rattle.vb_nodes.specs.Faults.{has_lower_twin, is_entry, IsNodeTree}
-use Rattle.vb_nodes.specs.Holdings.{blank_ref, held_from, held_of}
+use Rattle.vb_index.specs.Changes.{blank_ref}
+use Rattle.vb_nodes.specs.Holdings.{held_from, held_of}
 use Rattle.vb_nodes.specs.Building.{depth_of, is_placed, HoldsPlaced}
 use Rattle.vb_nodes.proofs.NodeLaws.{node-of, node-past}
 use Rattle.vb_nodes.proofs.TreeFacts.{depth-above, depth-next, depth-of-root, entry-of-tree, root-of-tree}

@@ -17,7 +17,8 @@ use Rattle.vb_index.proofs.Positions.{position-at}
 use Rattle.vb_index.proofs.Walks.{walk-snoc}
 use Rattle.vb_nodes.specs.Paths.{ancestor, enough_steps, free_node, node_at, parent_in, path_in, path_up, AreBySlot}
 use Rattle.vb_nodes.specs.Faults.{IsNodeTree}
-use Rattle.vb_nodes.specs.Holdings.{blank_ref, held_from, held_of, pages_of_nodes}
+use Rattle.vb_index.specs.Changes.{blank_ref}
+use Rattle.vb_nodes.specs.Holdings.{held_from, held_of, pages_of_nodes}
 use Rattle.vb_nodes.specs.Walking.{HasPath}
 use Rattle.vb_nodes.proofs.NodeLaws.{node-past}
 use Rattle.vb_nodes.proofs.TreeFacts.{entry-of-tree, own_part-entry, path-next, path-of-root, root-of-tree}

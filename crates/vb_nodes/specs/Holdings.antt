@@ -7,14 +7,11 @@ use Rattle.vb_tree.specs.Trees.{data_pages_of, pages_of_length}
 use Rattle.vb_inode.specs.declared.node.Node.{Node}
 use Rattle.vb_inode.specs.Nodes.{is_free}
 use Rattle.vb_index.specs.declared.held.Held.{Held}
+use Rattle.vb_index.specs.Changes.{blank_ref}
 use Rattle.vb_index.specs.Indexes.{IndexState}
 use Rattle.vb_nodes.specs.declared.errors.TableError.{TableError}
 use Rattle.vb_nodes.specs.declared.errors.TableError.TheVariants.{Wrong, TooManyPages, Memory}
 use Rattle.vb_nodes.specs.Faults.{Fault, table_fault}
-
--- a reference that names no page yet
-abbrev pub blank_ref : Ref
-blank_ref = record { place = 0; digest = replicate 32 0 }
 
 -- what an index holds of a node: nothing of a free one, and of any other one blank reference for each of its pages
 abbrev pub held_from : Node → Option Held

@@ -4,7 +4,8 @@ ghost use Rattle.vb_tree.specs.Trees.{data_pages_of, AreInLimits};
 ghost use Rattle.vb_inode.specs.Nodes.{is_free};
 ghost use Rattle.vb_nodes.specs.Paths.{enough_steps, node_at};
 ghost use Rattle.vb_nodes.specs.Ascents.{AreAscents};
-ghost use Rattle.vb_nodes.specs.Holdings.{blank_ref, held_of};
+ghost use Rattle.vb_index.specs.Changes.{blank_ref};
+ghost use Rattle.vb_nodes.specs.Holdings.{held_of};
 ghost use Rattle.vb_nodes.specs.Faults.{IsNodeTree};
 ghost use Rattle.vb_nodes.specs.Building.{depth_of, HoldsPlaced};
 
@@ -14,24 +15,9 @@ use crate::{Index, Limits, Node};
 use std::alloc::{AllocError, Global};
 use vb_block::{Digest, Ref};
 use vb_inode::Refs;
-use vb_path::Bytes;
 
 /// The most parts that a path has.
 const MOST_PARTS: u32 = 32;
-
-/// An equal node.
-fn copy_of(alloc: Global, node: &Node) -> Result<Node, AllocError>
-    ensures { IfOk result (λ copied. copied ≡ node.now) }
-{
-    Ok(Node {
-        slot: node.slot,
-        kind: node.kind,
-        parent: node.parent,
-        name: Bytes::of(alloc, node.name.slice())?,
-        length: node.length,
-        maps: Refs::of(alloc, node.maps.slice())?,
-    })
-}
 
 /// A blank reference for each page of a file of this length.
 fn blank_refs(alloc: Global, length: u64) -> Result<Refs, AllocError>
@@ -58,7 +44,7 @@ fn put_node(alloc: Global, index: &mut Index, nodes: &[Node], slot: u32) -> Resu
     ensures limits { OnOk result (index.new.limits ≡ index.old.limits) }
 {
     let node = &nodes[slot as usize];
-    let copied = copy_of(alloc, node)?;
+    let copied = node.copy(alloc)?;
     let refs = blank_refs(alloc, node.length)?;
     index.put(alloc, copied, refs)
 }

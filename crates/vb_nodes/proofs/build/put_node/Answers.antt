@@ -6,7 +6,7 @@ use Rattle.vb_inode.specs.Nodes.{is_free}
 use Rattle.vb_inode.specs.Reading.{IsNodeOf}
 use Rattle.vb_tree.specs.Trees.{data_pages_of}
 use Rattle.vb_index.specs.Indexes.{IndexState}
-use Rattle.vb_nodes.specs.Holdings.{blank_ref}
+use Rattle.vb_index.specs.Changes.{blank_ref}
 use Rattle.vb_index.specs.Nodes.{child_of, held_at, holds_folder}
 use Rattle.vb_nodes.specs.Paths.{free_node, node_at}
 use Rattle.vb_nodes.specs.Building.{depth_of}
