@@ -117,7 +117,7 @@ fn find_place(
 fn is_into_itself(table: &Table, slot: u32, source: &[Bytes], target: &[Bytes]) -> bool
     ensures { result ≡ (holds_folder (held_at table.now slot) && is_within source.now target.now) }
 {
-    table.holds_folder(slot) && is_within(source, target)
+    table.is_folder(slot) && is_within(source, target)
 }
 
 /// Whether what has the name keeps a node from it.
@@ -125,9 +125,9 @@ fn is_blocked(table: &Table, slot: u32, taken: Option<u32>) -> bool
     ensures blocked { result ≡ blocks table.now slot taken }
     ensures table { IsTable table.now }
 {
-    let folder = table.holds_folder(slot);
+    let folder = table.is_folder(slot);
     match taken {
-        Some(other) => folder || table.holds_folder(other),
+        Some(other) => folder || table.is_folder(other),
         None => false,
     }
 }

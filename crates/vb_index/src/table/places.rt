@@ -4,12 +4,12 @@ ghost use Rattle.std.specs.BTreeMap as tree;
 ghost use Rattle.std.specs.Ordering.{nat_cmp};
 ghost use Rattle.std.specs.Cmp.Lexicographic.{slice_cmp};
 ghost use Rattle.vb_index.specs.declared.held.Held.{Held};
-ghost use Rattle.vb_index.specs.Nodes.{held_at, holds_folder, child_of, IsTable};
+ghost use Rattle.vb_index.specs.Nodes.{held_at, child_of, IsTable};
 ghost use Rattle.vb_index.specs.Moves.{with_place, MayPlace, MayReplace};
 
 use super::{Table, held_in};
 use crate::children::{Entries, add_child, drop_child, reassign_child};
-use crate::{Bytes, Held, NodeKind};
+use crate::{Bytes, Held};
 use std::alloc::{AllocError, Global};
 use vb_tree::pages_of;
 
@@ -21,18 +21,6 @@ impl Table {
         ensures table { IsTable self.now }
     {
         &self.children[folder as usize]
-    }
-
-    /// Whether a slot holds a folder.
-    pub fn holds_folder(&self, slot: u32) -> bool
-        ensures folder { result ≡ holds_folder (held_at self.now slot) }
-        ensures table { IsTable self.now }
-    {
-        let _ = &self.nodes;
-        match self.held(slot) {
-            Some(held) => held.node.kind == NodeKind::Folder,
-            None => false,
-        }
     }
 
     /// Moves an entry into a folder, under a name that is new there.
