@@ -4,4 +4,5 @@ pub mod Judging
 pub mod TreeFacts
 pub mod Placing
 pub mod WalkLaws
+pub mod ShapeLaws
 pub mod Forged

@@ -248,6 +248,12 @@ root_is node own folder parent named measured mapped =
     let maps = empty_is node.maps (mapped ∙ ap map_pages_of len) in
     nodes_same node root_held.node own kind parent name len maps
 
+pub root_node : (nodes : List Node) → IsNodeTree nodes → node_at nodes 0 ≡ root_held.node
+root_node nodes tree =
+    let of = node-of nodes 0 tree.by_slot tree.some in
+    let root = root-of-tree nodes tree in
+    root_is (node_at nodes 0) (tree.by_slot.own_slots 0 tree.some) root.0 root.1 of.in_range.named of.in_range.measured of.in_range.mapped
+
 -- at the begin there is the root
 pub placed-begin : (nodes : List Node) (limit : ℕ) (held : List (Option Held)) → IsNodeTree nodes → length nodes ≡ limit → held ≡ Some root_held ∷ replicate (limit - 1) None → HoldsPlaced nodes 1 0 held
 placed-begin nodes limit held tree len is = record {
@@ -262,14 +268,8 @@ placed-begin nodes limit held tree len is = record {
   root : (is_folder_node (node_at nodes 0).kind ≡ true) × (parent_in nodes 0 ≡ 0)
   root = root-of-tree nodes tree
 
-  of : IsNodeOf (length nodes) (node_at nodes 0)
-  of = node-of nodes 0 tree.by_slot tree.some
-
-  is_root : node_at nodes 0 ≡ root_held.node
-  is_root = root_is (node_at nodes 0) (tree.by_slot.own_slots 0 tree.some) root.0 root.1 of.in_range.named of.in_range.measured of.in_range.mapped
-
   at : (k : ℕ) → held_at (Some root_held ∷ replicate (limit - 1) None) k ≡ cond (is_placed nodes 1 0 k) (held_from (node_at nodes k)) None
-  at zero = sym (ap (λ (b : Bool). cond b (held_from (node_at nodes 0)) None) (placed-above (depth_of nodes 0) 1 0 0 (omega (arith, depth-of-root nodes root.1))) ∙ ap held_from is_root)
+  at zero = sym (ap (λ (b : Bool). cond b (held_from (node_at nodes 0)) None) (placed-above (depth_of nodes 0) 1 0 0 (omega (arith, depth-of-root nodes root.1))) ∙ ap held_from (root_node nodes tree))
   at (suc k) = none_at (limit - 1) k ∙ sym (ap (λ (b : Bool). cond b (held_from (node_at nodes (suc k))) None) (placed-not (depth_of nodes (suc k)) 1 (suc k) 0 (let deep = depth-above nodes (suc k) (omega arith) in omega arith) (λ e. omega arith)))
 
 -- at the end there are all nodes

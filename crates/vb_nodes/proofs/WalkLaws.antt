@@ -29,10 +29,10 @@ use Rattle.vb_nodes.proofs.Placing.{folder_used, held_used, twin_from}
 abbrev held_with : Node → Held
 held_with node = record { node = node; refs = replicate (data_pages_of node.length) blank_ref }
 
-held-of-at : (nodes : List Node) (slot : ℕ) → held_at (held_of nodes) slot ≡ held_from (node_at nodes slot)
+pub held-of-at : (nodes : List Node) (slot : ℕ) → held_at (held_of nodes) slot ≡ held_from (node_at nodes slot)
 held-of-at nodes slot = get_or-map held_from nodes slot free_node
 
-held_free : (node : Node) → is_free node.kind ≡ true → held_from node ≡ None
+pub held_free : (node : Node) → is_free node.kind ≡ true → held_from node ≡ None
 held_free node free = ap (λ (b : Bool). cond b None (Some (held_with node))) free
 
 -- a slot that isn't free is one that there is
