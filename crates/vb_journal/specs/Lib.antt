@@ -3,4 +3,5 @@ pub mod Commits
 pub mod Images
 pub mod Plans
 pub mod Progress
+pub mod Recoveries
 pub mod Shown

@@ -4,10 +4,12 @@
 mod commit;
 mod commit_stage;
 mod crashes;
+mod recover_error;
 
 pub use commit::{Commit, Images};
 pub use commit_stage::{CommitStep, Stage, Turn};
 pub use crashes::{a_rested_commit_is_at_rest, each_crash_shows};
+pub use recover_error::RecoverError;
 pub use vb_head::{Head, HeadRead, State, read_head, write_head};
 
 #[cfg(test)]
