@@ -82,9 +82,10 @@ home_at i old new Rested = Fixed new
 abbrev pub IsUnnamed : List (List ℕ) → ℕ → Type 0
 IsUnnamed images slot = (i : ℕ) → i < length images → slot_of (image_at images i) ≢ slot
 
--- a store in the midst of a commit, at a stage. Before it the homes held these pages, and so did the journal.
+-- a store in the midst of a commit, at a stage, by its candidates. Before it the homes held these pages, and so did the journal.
 pub record IsCommitting (head : Head) (epoch : ℕ) (images : List (List ℕ)) (homes journal : ℕ → List ℕ) (stage : Stage) (d : DiskState) : Type 0 where
   pub id : length head.id ≡ 16
+  pub size : d.size ≡ head.blocks
   pub first : Has (first_at (head_page head) (head_page (opened_head head epoch images)) (head_page (closed_head head epoch)) stage) (d.cells 0)
   pub second : Has (second_at (head_page head) (head_page (opened_head head epoch images)) (head_page (closed_head head epoch)) stage) (d.cells 1)
   pub in_journal : (i : ℕ) → i < length images → Has (journal_at i (journal i) (image_at images i) stage) (d.cells (2 + head.nodes + i))
@@ -92,9 +93,10 @@ pub record IsCommitting (head : Head) (epoch : ℕ) (images : List (List ℕ)) (
   pub beyond : (i : ℕ) → length images ≤ i → i < head.nodes → Has (Fixed (journal i)) (d.cells (2 + head.nodes + i))
   pub others : (slot : ℕ) → slot < head.nodes → IsUnnamed images slot → Has (Fixed (homes slot)) (d.cells (2 + slot))
 
--- a store at rest: each place has one candidate
+-- a store at rest: each place of its heads, homes and journal has one candidate
 pub record IsAtRest (head : Head) (homes journal : ℕ → List ℕ) (d : DiskState) : Type 0 where
   pub id : length head.id ≡ 16
+  pub size : d.size ≡ head.blocks
   pub first : Has (Fixed (head_page head)) (d.cells 0)
   pub second : Has (Fixed (head_page head)) (d.cells 1)
   pub each_home : (slot : ℕ) → slot < head.nodes → Has (Fixed (homes slot)) (d.cells (2 + slot))
@@ -125,9 +127,10 @@ AfterCrash P d = (new : DiskState) → MayCrashTo d new → P (λ place. read_at
 abbrev pub AreUnhurt : ℕ → DiskState → Type 0
 AreUnhurt end d = (place : ℕ) → place < end → (d.cells place).hurt ≡ None
 
--- each place has the same candidates on both disks, as before and after damage
-abbrev pub HaveSameCandidates : DiskState → DiskState → Type 0
-HaveSameCandidates old new = (place : ℕ) → candidates (new.cells place) ≡ candidates (old.cells place)
+-- the size and the candidates of each place stand, as where damage came
+pub record HasSameCandidates (old new : DiskState) : Type 0 where
+  pub size : new.size ≡ old.size
+  pub each : (place : ℕ) → candidates (new.cells place) ≡ candidates (old.cells place)
 
 -- what a step leaves of a disk that is known at its stage: one that is known at the stage after it. Each moment
 -- within it is known at the one stage or the other, and where no place was hurt by then each crash shows what the

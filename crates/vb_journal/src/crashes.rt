@@ -6,7 +6,7 @@ ghost use Rattle.vb_head.specs.declared.head.Head.{Head};
 ghost use Rattle.vb_journal.specs.declared.commit_stage.Stage.{Stage};
 ghost use Rattle.vb_journal.specs.declared.commit_stage.Stage.TheVariants.{Rested};
 ghost use Rattle.vb_journal.specs.Plans.{CanGoOn, CanFinish, closed_head};
-ghost use Rattle.vb_journal.specs.Progress.{AfterCrash, AreUnhurt, HaveSameCandidates, IsAtRest, IsCommitting, ShowsAt, new_images, new_journal};
+ghost use Rattle.vb_journal.specs.Progress.{AfterCrash, AreUnhurt, HasSameCandidates, IsAtRest, IsCommitting, ShowsAt, new_images, new_journal};
 
 /// After each crash of a disk that is known at a stage of a commit and has no hurt place of a head, a node or the
 /// journal, whichever candidates it picks and whatever it tears, reads show the node images from before the commit
@@ -27,10 +27,10 @@ pub fn a_rested_commit_is_at_rest()
 
 /// What is known of a commit is known of its candidates, so that damage at any moment leaves it.
 pub fn damage_leaves_a_commit()
-    ensures damage { (d : DiskState) (place : ℕ) (page : List ℕ) → HaveSameCandidates d (damaged d place page) }
+    ensures damage { (d : DiskState) (place : ℕ) (page : List ℕ) → HasSameCandidates d (damaged d place page) }
     ensures commit { (head : Head) (epoch : ℕ) (images : List (List ℕ)) (homes journal : ℕ → List ℕ) (stage : Stage) (old new : DiskState)
-        → HaveSameCandidates old new → IsCommitting head epoch images homes journal stage old
+        → HasSameCandidates old new → IsCommitting head epoch images homes journal stage old
         → IsCommitting head epoch images homes journal stage new }
     ensures rest { (head : Head) (homes journal : ℕ → List ℕ) (old new : DiskState)
-        → HaveSameCandidates old new → IsAtRest head homes journal old → IsAtRest head homes journal new }
+        → HasSameCandidates old new → IsAtRest head homes journal old → IsAtRest head homes journal new }
 {}
