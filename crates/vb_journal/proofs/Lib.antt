@@ -1,5 +1,6 @@
 pub mod AfterCrashes
 pub mod FirstCalls
+pub mod Found
 pub mod Heads
 pub mod ImageWrites
 pub mod Keeping
@@ -8,3 +9,4 @@ pub mod PlanSteps
 pub mod Resting
 pub mod StepsOfCommits
 pub mod TriedCells
+pub mod Unhurt

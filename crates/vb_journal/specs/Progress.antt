@@ -1,10 +1,10 @@
 -- How far the places of a store have come while a commit goes on.
-use Rattle.std.specs.Prelude.{◌≡◌, ◌≢◌, ◌⊎◌, ℕ, suc, ◌+◌, ◌*◌, ◌<◌, ◌≤◌, nat_lt, if◌then◌else◌, List, [], ◌∷◌, length, replicate, Option, Some, None}
+use Rattle.std.specs.Prelude.{◌≡◌, ◌≢◌, ◌⊎◌, ℕ, suc, ◌+◌, ◌<◌, ◌≤◌, nat_lt, if◌then◌else◌, List, [], ◌∷◌, length, replicate, Option, Some}
 use Rattle.vb_disk.specs.declared.cell.Cell.{Cell}
 use Rattle.vb_disk.specs.Cells.{candidates}
 use Rattle.vb_disk.specs.Crashes.{MayCrashTo}
 use Rattle.vb_disk.specs.Moments.{EachMoment}
-use Rattle.vb_disk.specs.States.{DiskState, read_at}
+use Rattle.vb_disk.specs.States.{DiskState}
 use Rattle.vb_head.specs.declared.head.Head.{Head}
 use Rattle.vb_head.specs.Heads.{head_page}
 use Rattle.vb_journal.specs.declared.commit_stage.Stage.{Stage}
@@ -12,8 +12,9 @@ use Rattle.vb_journal.specs.declared.commit_stage.Stage.TheVariants.{Journal, Op
 use Rattle.vb_journal.specs.declared.commit_stage.Turn.{Turn}
 use Rattle.vb_journal.specs.declared.commit_stage.Turn.TheVariants.{First, FirstSync, Second, SecondSync}
 use Rattle.vb_journal.specs.Images.{image_at, slot_of}
+use Rattle.vb_journal.specs.Outcomes.{IsRefused, Recovers}
 use Rattle.vb_journal.specs.Plans.{closed_head, opened_head}
-use Rattle.vb_journal.specs.Shown.{Shows, image_over}
+use Rattle.vb_journal.specs.Shown.{image_over}
 
 -- a place between two pages: it holds the old one; the new one was perhaps written; it was written
 pub data Progress : Type 0 where
@@ -110,37 +111,33 @@ new_images images homes slot = image_over images slot (homes slot)
 abbrev pub new_journal : List (List ℕ) → (ℕ → List ℕ) → ℕ → List ℕ
 new_journal images journal i = if nat_lt i (length images) then image_at images i else journal i
 
--- what reads give at a stage: the old images or the new ones, and from the second sync of the opened heads on the
--- new ones
-abbrev pub ShowsAt : Head → ℕ → List (List ℕ) → (ℕ → List ℕ) → Stage → (ℕ → List ℕ) → Type 0
-ShowsAt head epoch images homes (Journal next) reads = Shows reads head head.epoch homes ⊎ Shows reads head epoch (new_images images homes)
-ShowsAt head epoch images homes (Opening turn) reads = Shows reads head head.epoch homes ⊎ Shows reads head epoch (new_images images homes)
-ShowsAt head epoch images homes (Homes next) reads = Shows reads head epoch (new_images images homes)
-ShowsAt head epoch images homes (Closing turn) reads = Shows reads head epoch (new_images images homes)
-ShowsAt head epoch images homes Rested reads = Shows reads head epoch (new_images images homes)
-
--- after each crash of the disk, what reads give has P
-abbrev pub AfterCrash : ((ℕ → List ℕ) → Type 0) → DiskState → Type 0
-AfterCrash P d = (new : DiskState) → MayCrashTo d new → P (λ place. read_at new place)
-
--- no place below this one is hurt
-abbrev pub AreUnhurt : ℕ → DiskState → Type 0
-AreUnhurt end d = (place : ℕ) → place < end → (d.cells place).hurt ≡ None
-
 -- the size and the candidates of each place stand, as where damage came
 pub record HasSameCandidates (old new : DiskState) : Type 0 where
   pub size : new.size ≡ old.size
   pub each : (place : ℕ) → candidates (new.cells place) ≡ candidates (old.cells place)
 
+-- what a crash at a stage leaves: a disk that recovers to the head and the images from before the commit or to the new
+-- ones, and from the second sync of the opened heads on to the new ones
+abbrev pub RecoversAt : Head → ℕ → List (List ℕ) → (ℕ → List ℕ) → Stage → DiskState → DiskState → Type 0
+RecoversAt head epoch images homes (Journal next) old new = Recovers old new head homes ⊎ Recovers old new (closed_head head epoch) (new_images images homes)
+RecoversAt head epoch images homes (Opening turn) old new = Recovers old new head homes ⊎ Recovers old new (closed_head head epoch) (new_images images homes)
+RecoversAt head epoch images homes (Homes next) old new = Recovers old new (closed_head head epoch) (new_images images homes)
+RecoversAt head epoch images homes (Closing turn) old new = Recovers old new (closed_head head epoch) (new_images images homes)
+RecoversAt head epoch images homes Rested old new = Recovers old new (closed_head head epoch) (new_images images homes)
+
+-- each crash of a disk leaves one that recovers, or is refused where a head or a place of the journal was hurt before
+abbrev pub EachCrashRecovers : Head → ℕ → List (List ℕ) → (ℕ → List ℕ) → Stage → DiskState → Type 0
+EachCrashRecovers head epoch images homes stage d =
+    (new : DiskState) → MayCrashTo d new → RecoversAt head epoch images homes stage d new ⊎ IsRefused head.nodes d new
+
 -- what a step leaves of a disk that is known at its stage: one that is known at the stage after it. Each moment
--- within it is known at the one stage or the other, and where no place was hurt by then each crash shows what the
--- first stage shows.
+-- within it is known at the one stage or the other, and each crash at it recovers as at the first one.
 pub record GoesTo (head : Head) (epoch : ℕ) (images : List (List ℕ)) (homes journal : ℕ → List ℕ) (before after : Stage) (d : DiskState) (new : Option DiskState) : Type 0 where
   pub next : DiskState
   pub told : new ≡ Some next
   pub known : IsCommitting head epoch images homes journal after next
   pub moments : EachMoment (λ m. IsCommitting head epoch images homes journal before m ⊎ IsCommitting head epoch images homes journal after m) d next
-  pub crashes : EachMoment (λ m. AreUnhurt (2 + 2 * head.nodes) m → AfterCrash (ShowsAt head epoch images homes before) m) d next
+  pub crashes : EachMoment (EachCrashRecovers head epoch images homes before) d next
 
 -- so does each step of a disk that is known at its stage
 abbrev pub GoesOn : Head → ℕ → List (List ℕ) → (ℕ → List ℕ) → (ℕ → List ℕ) → Stage → Stage → Option DiskState → Option DiskState → Type 0

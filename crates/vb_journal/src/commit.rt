@@ -88,8 +88,9 @@ impl Commit {
         ensures seen { D.seen disk.new ≡ D.seen disk.old }
         ensures cause { HasCause DiskError.Failed (D.faults disk.old) (D.faults disk.new) result }
 
-        // Each moment within the step is known at the stage before or after it. Where no place is hurt by then, each
-        // crash shows the images from before the commit or the new ones, and from Committed on the new ones.
+        // Each moment within the step is known at the stage before or after it, and each crash at it leaves a disk
+        // that recovers to the images from before the commit or to the new ones, and from Committed on to the new
+        // ones, but for what was hurt before the crash.
         ensures crash { (homes journal : ℕ → List ℕ) → GoesOn (head_of self.old) (epoch_of self.old) (images_of self.old) homes journal
             (stage_of self.old) (stage_of self.new) (D.told disk.old) (D.told disk.new) }
     {

@@ -14,7 +14,7 @@ use Rattle.vb_journal.proofs.commit.Commit.step.Goals as goal
 pub returns-then-is_rested-clause-crash : goal.returns-then-is_rested-clause-crash
 returns-then-is_rested-clause-crash g c homes journal =
     let old = c.args.self.now in
-    goes_on-none old.head old.epoch old.images homes journal old.stage (g.D.Disk.told c.args.disk.now) (g.D.Disk.told c.args.disk.now) old.can refl
+    goes_on-none old.head old.epoch old.images homes journal old.stage (g.D.Disk.told c.args.disk.now) (g.D.Disk.told c.args.disk.now) old.can (λ d told. g.met.D.Disk.valid c.args.disk.now d told) refl
 
 pub returns-in-Ok-clause-calls : goal.returns-in-Ok-clause-calls
 returns-in-Ok-clause-calls g c =
@@ -36,7 +36,7 @@ returns-in-Ok-clause-crash g c homes journal =
     let old = c.args.self.now in
     let going : is_rested c.args.self.now.stage ≡ false = sym c.is_rested.ensures ∙ c.if-is_rested.false in
     let Q : Stage → Type 0 = λ s. GoesOn c.args.self.now.head c.args.self.now.epoch c.args.self.now.images homes journal c.args.self.now.stage s (g.D.Disk.told c.args.disk.now) (g.D.Disk.told c.make_call.new.disk) in
-    subst Q (sym c.advance.ensures.stage) (goes_on-made old.head old.epoch old.images homes journal old.stage (g.D.Disk.told c.args.disk.now) (g.D.Disk.told c.make_call.new.disk) old.can going c.in-Ok.ensures.makes.made)
+    subst Q (sym c.advance.ensures.stage) (goes_on-made old.head old.epoch old.images homes journal old.stage (g.D.Disk.told c.args.disk.now) (g.D.Disk.told c.make_call.new.disk) old.can (λ d told. g.met.D.Disk.valid c.args.disk.now d told) (λ d told. g.met.D.Disk.valid c.make_call.new.disk d told) going c.in-Ok.ensures.makes.made)
 
 pub returns-in-Err-clause-calls : goal.returns-in-Err-clause-calls
 returns-in-Err-clause-calls g c =
@@ -48,4 +48,4 @@ pub returns-in-Err-clause-crash : goal.returns-in-Err-clause-crash
 returns-in-Err-clause-crash g c homes journal =
     let old = c.args.self.now in
     let going : is_rested c.args.self.now.stage ≡ false = sym c.is_rested.ensures ∙ c.if-is_rested.false in
-    goes_on-gone old.head old.epoch old.images homes journal old.stage (g.D.Disk.told c.args.disk.now) (g.D.Disk.told c.make_call.new.disk) c.in-Err.error old.can going c.in-Err.ensures.makes
+    goes_on-gone old.head old.epoch old.images homes journal old.stage (g.D.Disk.told c.args.disk.now) (g.D.Disk.told c.make_call.new.disk) c.in-Err.error old.can (λ d told. g.met.D.Disk.valid c.args.disk.now d told) (λ d told. g.met.D.Disk.valid c.make_call.new.disk d told) going c.in-Err.ensures.makes
