@@ -1,4 +1,5 @@
 pub mod AfterCrashes
+pub mod DataPlaces
 pub mod FirstCalls
 pub mod Found
 pub mod Heads

@@ -1,5 +1,6 @@
 pub mod Calls
 pub mod Commits
+pub mod Data
 pub mod Images
 pub mod Outcomes
 pub mod Plans

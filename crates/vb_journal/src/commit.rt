@@ -29,6 +29,7 @@ pub struct Commit {
 
 impl Commit {
     ghost use Rattle.vb_journal.specs.Commits.{calls_left, epoch_of, head_of, images_of, stage_of};
+    ghost use Rattle.vb_journal.specs.Data.{LeavesFrom};
     ghost use Rattle.vb_journal.specs.Progress.{GoesOn, IsAtRest, IsCommitting};
     ghost use Rattle.vb_disk.specs.States.{DiskState};
     ghost use Rattle.vb_journal.specs.Images.{image_at};
@@ -87,6 +88,9 @@ impl Commit {
         ensures images { images_of self.new ≡ images_of self.old }
         ensures seen { D.seen disk.new ≡ D.seen disk.old }
         ensures cause { HasCause DiskError.Failed (D.faults disk.old) (D.faults disk.new) result }
+
+        // No place of data is written. It stands, or has its newest candidate left where the step made a sync.
+        ensures data { LeavesFrom (2 + 2 * (head_of self.old).nodes) (D.told disk.old) (D.told disk.new) result }
 
         // Each moment within the step is known at the stage before or after it, and each crash at it leaves a disk
         // that recovers to the images from before the commit or to the new ones, and from Committed on to the new
