@@ -90,7 +90,7 @@ journal_counts head epoch images homes d new c counts is accepts =
     ])
 
 -- the opened head counts behind a whole journal
-opened_counts : (head : Head) (epoch : ℕ) (images : List (List ℕ)) (homes : ℕ → List ℕ) (d new : DiskState) → Crash head epoch images homes d new → counting new ≡ Some (opened_head head epoch images) → ((i : ℕ) → i < length images → Has (Fixed (image_at images i)) (d.cells (2 + head.nodes + i))) → Recovers d new (closed_head head epoch) (new_images images homes) ⊎ IsRefused head.nodes d new
+opened_counts : (head : Head) (epoch : ℕ) (images : List (List ℕ)) (homes : ℕ → List ℕ) (d new : DiskState) → Crash head epoch images homes d new → counting new ≡ Some (opened_head head epoch images) → ((i : ℕ) → i < length images → Has (Fixed (image_at images i)) (d.cells (2 + head.nodes + i))) → Recovers d new (closed_head head epoch) (new_images images homes) ⊎ IsRefused head.nodes (length images) d new
 opened_counts head epoch images homes d new c is journal =
     let counts : Counts new (opened_head head epoch images) = record {
       large = (let space = c.can.closed.space in let low = c.can.closed.nodes_low in let same = c.size in let stays = c.crash.size in omega arith);
@@ -100,7 +100,7 @@ opened_counts head epoch images homes d new c is journal =
     } in
     elim (journal_read head.nodes (2 + head.nodes) d new images c.can.images_are (λ i within. reads_or_hurt (image_at images i) d new (2 + head.nodes + i) c.disk c.crash (journal i within))) [
       | inl read ↦ inl (journal_counts head epoch images homes d new c counts read.0 read.1)
-      | inr hurt ↦ inr (IsRefused-journal head.nodes d new (opened_head head epoch images) counts refl (length images) c.can.opened.count refl hurt)
+      | inr hurt ↦ inr (IsRefused-journal head.nodes d new (opened_head head epoch images) counts refl (length images) refl hurt)
     ]
 
 -- the head from before counts, and no home was written
@@ -128,15 +128,15 @@ after_counts head epoch images homes d new c is home =
 -- ---- the heads in a turn
 
 -- in each turn from an old to a new head, one of them counts, or the other copy was hurt
-one_counts : (nodes : ℕ) (a b : Head) (turn : Turn) (d new : DiskState) → IsHead a → IsHead b → IsDiskState d → MayCrashTo d new → Has (first_in (head_page a) (head_page b) turn) (d.cells 0) → Has (second_in (head_page a) (head_page b) turn) (d.cells 1) → OneCounts nodes a b d new
-one_counts nodes a b First d new is_a is_b disk crash first second = OneCounts-first nodes a b d new (MayReadHead-Trying a b d new 0 is_a is_b disk crash first) (StandsOrHurt-Fixed a d new 1 is_a disk crash second)
-one_counts nodes a b FirstSync d new is_a is_b disk crash first second = OneCounts-first nodes a b d new (MayReadHead-Trying a b d new 0 is_a is_b disk crash (Trying-from_Tried (head_page a) (head_page b) (d.cells 0) first)) (StandsOrHurt-Fixed a d new 1 is_a disk crash second)
-one_counts nodes a b Second d new is_a is_b disk crash first second = OneCounts-second nodes a b d new (StandsOrHurt-Fixed b d new 0 is_b disk crash first) (MayReadHead-Trying a b d new 1 is_a is_b disk crash second)
-one_counts nodes a b SecondSync d new is_a is_b disk crash first second = OneCounts-second nodes a b d new (StandsOrHurt-Fixed b d new 0 is_b disk crash first) (MayReadHead-Trying a b d new 1 is_a is_b disk crash (Trying-from_Tried (head_page a) (head_page b) (d.cells 1) second))
+one_counts : (a b : Head) (turn : Turn) (d new : DiskState) → IsHead a → IsHead b → IsDiskState d → MayCrashTo d new → Has (first_in (head_page a) (head_page b) turn) (d.cells 0) → Has (second_in (head_page a) (head_page b) turn) (d.cells 1) → OneCounts a b d new
+one_counts a b First d new is_a is_b disk crash first second = OneCounts-first a b d new (MayReadHead-Trying a b d new 0 is_a is_b disk crash first) (StandsOrHurt-Fixed a d new 1 is_a disk crash second)
+one_counts a b FirstSync d new is_a is_b disk crash first second = OneCounts-first a b d new (MayReadHead-Trying a b d new 0 is_a is_b disk crash (Trying-from_Tried (head_page a) (head_page b) (d.cells 0) first)) (StandsOrHurt-Fixed a d new 1 is_a disk crash second)
+one_counts a b Second d new is_a is_b disk crash first second = OneCounts-second a b d new (StandsOrHurt-Fixed b d new 0 is_b disk crash first) (MayReadHead-Trying a b d new 1 is_a is_b disk crash second)
+one_counts a b SecondSync d new is_a is_b disk crash first second = OneCounts-second a b d new (StandsOrHurt-Fixed b d new 0 is_b disk crash first) (MayReadHead-Trying a b d new 1 is_a is_b disk crash (Trying-from_Tried (head_page a) (head_page b) (d.cells 1) second))
 
 -- the head counts that stands at both places, or both were hurt
-same_counts : (nodes : ℕ) (h : Head) (d new : DiskState) → IsHead h → IsDiskState d → MayCrashTo d new → Has (Fixed (head_page h)) (d.cells 0) → Has (Fixed (head_page h)) (d.cells 1) → (counting new ≡ Some h) ⊎ AreGone nodes d new
-same_counts nodes h d new is disk crash first second = OneCounts-both nodes h d new (StandsOrHurt-Fixed h d new 0 is disk crash first) (StandsOrHurt-Fixed h d new 1 is disk crash second)
+same_counts : (h : Head) (d new : DiskState) → IsHead h → IsDiskState d → MayCrashTo d new → Has (Fixed (head_page h)) (d.cells 0) → Has (Fixed (head_page h)) (d.cells 1) → (counting new ≡ Some h) ⊎ AreGone d new
+same_counts h d new is disk crash first second = OneCounts-both h d new (StandsOrHurt-Fixed h d new 0 is disk crash first) (StandsOrHurt-Fixed h d new 1 is disk crash second)
 
 -- ---- each stage
 
@@ -153,29 +153,29 @@ large head epoch images homes d new c =
     omega arith
 
 -- while the heads are opened
-while_opening : (head : Head) (epoch : ℕ) (images : List (List ℕ)) (homes journal : ℕ → List ℕ) (turn : Turn) (d new : DiskState) → CanGoOn head epoch images (Opening turn) → Crash head epoch images homes d new → IsCommitting head epoch images homes journal (Opening turn) d → (Recovers d new head homes ⊎ Recovers d new (closed_head head epoch) (new_images images homes)) ⊎ IsRefused head.nodes d new
+while_opening : (head : Head) (epoch : ℕ) (images : List (List ℕ)) (homes journal : ℕ → List ℕ) (turn : Turn) (d new : DiskState) → CanGoOn head epoch images (Opening turn) → Crash head epoch images homes d new → IsCommitting head epoch images homes journal (Opening turn) d → (Recovers d new head homes ⊎ Recovers d new (closed_head head epoch) (new_images images homes)) ⊎ IsRefused head.nodes (length images) d new
 while_opening head epoch images homes journal turn d new can c is =
     let early : CanCommit head epoch images = can.early refl in
     let before : IsHead head = record { range = early.range; id_length = c.id } in
     let opened : IsHead (opened_head head epoch images) = record { range = c.can.opened; id_length = c.id } in
-    elim (one_counts head.nodes head (opened_head head epoch images) turn d new before opened c.disk c.crash is.first is.second) [
+    elim (one_counts head (opened_head head epoch images) turn d new before opened c.disk c.crash is.first is.second) [
       | inl old ↦ inl (inl (before_counts head epoch images homes d new c early.closed old is.at_home))
       | inr other ↦ elim other [
         | inl fresh ↦ elim (opened_counts head epoch images homes d new c fresh is.in_journal) [ inl recovers ↦ inl (inr recovers) | inr refused ↦ inr refused ]
-        | inr gone ↦ inr (IsRefused-gone head.nodes d new (large head epoch images homes d new c) gone)
+        | inr gone ↦ inr (IsRefused-gone head.nodes (length images) d new (large head epoch images homes d new c) gone)
       ]
     ]
 
 -- while they are closed again
-while_closing : (head : Head) (epoch : ℕ) (images : List (List ℕ)) (homes journal : ℕ → List ℕ) (turn : Turn) (d new : DiskState) → Crash head epoch images homes d new → IsCommitting head epoch images homes journal (Closing turn) d → Recovers d new (closed_head head epoch) (new_images images homes) ⊎ IsRefused head.nodes d new
+while_closing : (head : Head) (epoch : ℕ) (images : List (List ℕ)) (homes journal : ℕ → List ℕ) (turn : Turn) (d new : DiskState) → Crash head epoch images homes d new → IsCommitting head epoch images homes journal (Closing turn) d → Recovers d new (closed_head head epoch) (new_images images homes) ⊎ IsRefused head.nodes (length images) d new
 while_closing head epoch images homes journal turn d new c is =
     let opened : IsHead (opened_head head epoch images) = record { range = c.can.opened; id_length = c.id } in
     let closed : IsHead (closed_head head epoch) = record { range = c.can.closed; id_length = c.id } in
-    elim (one_counts head.nodes (opened_head head epoch images) (closed_head head epoch) turn d new opened closed c.disk c.crash is.first is.second) [
+    elim (one_counts (opened_head head epoch images) (closed_head head epoch) turn d new opened closed c.disk c.crash is.first is.second) [
       | inl old ↦ opened_counts head epoch images homes d new c old is.in_journal
       | inr other ↦ elim other [
         | inl fresh ↦ inl (after_counts head epoch images homes d new c fresh is.at_home)
-        | inr gone ↦ inr (IsRefused-gone head.nodes d new (large head epoch images homes d new c) gone)
+        | inr gone ↦ inr (IsRefused-gone head.nodes (length images) d new (large head epoch images homes d new c) gone)
       ]
     ]
 
@@ -185,25 +185,25 @@ EachCrashRecovers-stage head epoch images homes journal (Journal next) d can dis
     let c = crash_at head epoch images homes journal (Journal next) d new can.finish disk is crash in
     let early : CanCommit head epoch images = can.early refl in
     let before : IsHead head = record { range = early.range; id_length = is.id } in
-    elim (same_counts head.nodes head d new before disk crash is.first is.second) [
+    elim (same_counts head d new before disk crash is.first is.second) [
       | inl counts ↦ inl (inl (before_counts head epoch images homes d new c early.closed counts is.at_home))
-      | inr gone ↦ inr (IsRefused-gone head.nodes d new (large head epoch images homes d new c) gone)
+      | inr gone ↦ inr (IsRefused-gone head.nodes 0 d new (large head epoch images homes d new c) gone)
     ]
 EachCrashRecovers-stage head epoch images homes journal (Opening turn) d can disk is new crash =
     while_opening head epoch images homes journal turn d new can (crash_at head epoch images homes journal (Opening turn) d new can.finish disk is crash) is
 EachCrashRecovers-stage head epoch images homes journal (Homes next) d can disk is new crash =
     let c = crash_at head epoch images homes journal (Homes next) d new can.finish disk is crash in
     let opened : IsHead (opened_head head epoch images) = record { range = c.can.opened; id_length = is.id } in
-    elim (same_counts head.nodes (opened_head head epoch images) d new opened disk crash is.first is.second) [
+    elim (same_counts (opened_head head epoch images) d new opened disk crash is.first is.second) [
       | inl counts ↦ opened_counts head epoch images homes d new c counts is.in_journal
-      | inr gone ↦ inr (IsRefused-gone head.nodes d new (large head epoch images homes d new c) gone)
+      | inr gone ↦ inr (IsRefused-gone head.nodes (length images) d new (large head epoch images homes d new c) gone)
     ]
 EachCrashRecovers-stage head epoch images homes journal (Closing turn) d can disk is new crash =
     while_closing head epoch images homes journal turn d new (crash_at head epoch images homes journal (Closing turn) d new can.finish disk is crash) is
 EachCrashRecovers-stage head epoch images homes journal Rested d can disk is new crash =
     let c = crash_at head epoch images homes journal Rested d new can.finish disk is crash in
     let closed : IsHead (closed_head head epoch) = record { range = c.can.closed; id_length = is.id } in
-    elim (same_counts head.nodes (closed_head head epoch) d new closed disk crash is.first is.second) [
+    elim (same_counts (closed_head head epoch) d new closed disk crash is.first is.second) [
       | inl counts ↦ inl (after_counts head epoch images homes d new c counts is.at_home)
-      | inr gone ↦ inr (IsRefused-gone head.nodes d new (large head epoch images homes d new c) gone)
+      | inr gone ↦ inr (IsRefused-gone head.nodes (length images) d new (large head epoch images homes d new c) gone)
     ]

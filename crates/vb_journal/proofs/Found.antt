@@ -15,7 +15,7 @@ use Rattle.vb_head.specs.Heads.{head_read}
 use Rattle.vb_journal.specs.declared.recover_error.RecoverError.{RecoverError}
 use Rattle.vb_journal.specs.declared.recover_error.RecoverError.TheVariants.{NotAStore, Damaged}
 use Rattle.vb_journal.specs.Images.{AreImages, image_at, slot_of}
-use Rattle.vb_journal.specs.Outcomes.{IsRefused, Recovers, recovery_from}
+use Rattle.vb_journal.specs.Outcomes.{IsRefused, Recovers, recovery_on}
 use Rattle.vb_journal.specs.Recoveries.{Recovered, choice_of, head_among, head_choice, headless, image_refusal, images_refusal, is_named, is_rebuilding, journal_of, journal_refusal, node_image, or_refusal, recovered_by, recovered_from, recovery_of, settled_head}
 use Rattle.vb_journal.specs.Shown.{good_of, greater, pages_from}
 use Rattle.vb_journal.proofs.Heads.{AreGone, IsNoHead, counting, none_good}
@@ -59,46 +59,46 @@ recovery-journal size reads h refusal is journal = ap (recovered_by reads) is �
 -- ---- neither copy is a head
 
 -- the refusal of two places that aren't sealed
-refused_headless : (d : DiskState) (a b : HeadRead) (e : RecoverError) → 38 ≤ d.size → head_read (read_at d 0) ≡ a → head_read (read_at d 1) ≡ b → IsNoHead a → IsNoHead b → headless a b ≡ e → recovery_from d ≡ Err e
+refused_headless : (d : DiskState) (a b : HeadRead) (e : RecoverError) → 38 ≤ d.size → head_read (read_at d 0) ≡ a → head_read (read_at d 1) ≡ b → IsNoHead a → IsNoHead b → headless a b ≡ e → recovery_on d ≡ Err e
 refused_headless d a b e large first second no_first no_second is =
     let refuse : RecoverError → Result Head RecoverError = λ r. Err r in
     recovery-refused d.size (λ place. read_at d place) e
     (ap (λ (r : HeadRead). head_choice d.size r (head_read (read_at d 1))) first ∙ ap (head_choice d.size a) second ∙ choice-none d.size a b large (none_good a no_first) (none_good b no_second) ∙ ap refuse is)
 
-refused_by_kinds : (nodes : ℕ) (old new : DiskState) → 38 ≤ new.size → AreGone nodes old new → IsNoHead (head_read (read_at new 0)) → IsNoHead (head_read (read_at new 1)) → IsRefused nodes old new
-refused_by_kinds nodes old new large gone (inl x) (inl y) = inr (record {
+refused_by_kinds : (nodes count : ℕ) (old new : DiskState) → 38 ≤ new.size → AreGone old new → IsNoHead (head_read (read_at new 0)) → IsNoHead (head_read (read_at new 1)) → IsRefused nodes count old new
+refused_by_kinds nodes count old new large gone (inl x) (inl y) = inr (record {
   is = refused_headless new Blank Blank (NotAStore 0) large x y (inl refl) (inl refl) refl;
   first = (gone.first.hurt.bytes, gone.first.hurt.hurt);
   second = (gone.second.hurt.bytes, gone.second.hurt.hurt);
-  was_hurt = gone.was_hurt;
+  was_hurt = record { place = gone.place; kind = inl gone.low; hurt = gone.was_hurt };
 })
-refused_by_kinds nodes old new large gone (inl x) (inr y) = inl (record {
+refused_by_kinds nodes count old new large gone (inl x) (inr y) = inl (record {
   place = 1;
   kept = y.0;
   found = y.1.0;
   is = refused_headless new Blank (Unsealed y.0 y.1.0) (Damaged 1 y.0 y.1.0) large x y.1.1 (inl refl) (inr (y.0, (y.1.0, refl))) refl;
   hurt = (gone.second.hurt.bytes, gone.second.hurt.hurt);
-  was_hurt = gone.was_hurt;
+  was_hurt = record { place = gone.place; kind = inl gone.low; hurt = gone.was_hurt };
 })
-refused_by_kinds nodes old new large gone (inr x) (inl y) = inl (record {
+refused_by_kinds nodes count old new large gone (inr x) (inl y) = inl (record {
   place = 0;
   kept = x.0;
   found = x.1.0;
   is = refused_headless new (Unsealed x.0 x.1.0) Blank (Damaged 0 x.0 x.1.0) large x.1.1 y (inr (x.0, (x.1.0, refl))) (inl refl) refl;
   hurt = (gone.first.hurt.bytes, gone.first.hurt.hurt);
-  was_hurt = gone.was_hurt;
+  was_hurt = record { place = gone.place; kind = inl gone.low; hurt = gone.was_hurt };
 })
-refused_by_kinds nodes old new large gone (inr x) (inr y) = inl (record {
+refused_by_kinds nodes count old new large gone (inr x) (inr y) = inl (record {
   place = 0;
   kept = x.0;
   found = x.1.0;
   is = refused_headless new (Unsealed x.0 x.1.0) (Unsealed y.0 y.1.0) (Damaged 0 x.0 x.1.0) large x.1.1 y.1.1 (inr (x.0, (x.1.0, refl))) (inr (y.0, (y.1.0, refl))) refl;
   hurt = (gone.first.hurt.bytes, gone.first.hurt.hurt);
-  was_hurt = gone.was_hurt;
+  was_hurt = record { place = gone.place; kind = inl gone.low; hurt = gone.was_hurt };
 })
 
-pub IsRefused-gone : (nodes : ℕ) (old new : DiskState) → 38 ≤ new.size → AreGone nodes old new → IsRefused nodes old new
-IsRefused-gone nodes old new large gone = refused_by_kinds nodes old new large gone gone.first.no_head gone.second.no_head
+pub IsRefused-gone : (nodes count : ℕ) (old new : DiskState) → 38 ≤ new.size → AreGone old new → IsRefused nodes count old new
+IsRefused-gone nodes count old new large gone = refused_by_kinds nodes count old new large gone gone.first.no_head gone.second.no_head
 
 -- ---- a head counts, and its journal was read
 
@@ -249,8 +249,8 @@ Recovers-counting old new h target images counts accepts settled nodes each =
     }
 
 -- an image of the journal was hurt, and is refused
-pub IsRefused-journal : (nodes : ℕ) (old new : DiskState) (h : Head) → Counts new h → h.nodes ≡ nodes → (n : ℕ) → n ≤ nodes → journal_of (λ q. read_at new q) h ≡ pages_from (λ q. read_at new q) (2 + nodes) n → HasHurtImage nodes (2 + nodes) old new [] n → IsRefused nodes old new
-IsRefused-journal nodes old new h counts same n few pages hurt =
+pub IsRefused-journal : (nodes : ℕ) (old new : DiskState) (h : Head) → Counts new h → h.nodes ≡ nodes → (n : ℕ) → journal_of (λ q. read_at new q) h ≡ pages_from (λ q. read_at new q) (2 + nodes) n → HasHurtImage nodes (2 + nodes) old new [] n → IsRefused nodes n old new
+IsRefused-journal nodes old new h counts same n pages hurt =
     let reads : ℕ → List ℕ = λ q. read_at new q in
     let refusal : journal_refusal reads h ≡ Some (Damaged (2 + nodes + hurt.at) hurt.kept hurt.found) =
     ap (λ (m : ℕ). images_refusal m (2 + m) [] (journal_of reads h)) same ∙ ap (images_refusal nodes (2 + nodes) []) pages ∙ hurt.is in

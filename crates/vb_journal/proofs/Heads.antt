@@ -16,7 +16,7 @@ use Rattle.vb_head.specs.Layout.{are_zeros, fields_of}
 use Rattle.vb_head.specs.Heads.{IsHead, IsInRange, fault_of, head_from, head_page, head_read, is_marked, judged}
 use Rattle.vb_head.proofs.HeadsRead.{head_read-head_page}
 use Rattle.vb_journal.specs.declared.commit_stage.Stage.{Stage}
-use Rattle.vb_journal.specs.Outcomes.{WasHurt}
+use Rattle.vb_journal.specs.Outcomes.{IsHurt}
 use Rattle.vb_journal.specs.Plans.{CanCommit, CanGoOn, closed_head, opened_head}
 use Rattle.vb_journal.specs.Progress.{Fixed, Has, Trying}
 use Rattle.vb_journal.specs.Shown.{good_of, greater}
@@ -134,18 +134,20 @@ StandsOrHurt-Fixed h d crashed place is disk crash has = elim (read-Fixed (head_
 ]
 
 -- neither copy is a head, and one of them was hurt before
-pub record AreGone (nodes : ℕ) (old new : DiskState) : Type 0 where
+pub record AreGone (old new : DiskState) : Type 0 where
   pub first : IsGone (new.cells 0)
   pub second : IsGone (new.cells 1)
-  pub was_hurt : WasHurt nodes old
+  pub place : ℕ
+  pub low : place < 2
+  pub was_hurt : IsHurt old place
 
 -- the head that counts
 abbrev pub counting : DiskState → Option Head
 counting d = greater (good_of (head_read (read_at d 0))) (good_of (head_read (read_at d 1)))
 
 -- one of two heads counts, or none
-abbrev pub OneCounts : ℕ → Head → Head → DiskState → DiskState → Type 0
-OneCounts nodes a b old new = (counting new ≡ Some a) ⊎ ((counting new ≡ Some b) ⊎ AreGone nodes old new)
+abbrev pub OneCounts : Head → Head → DiskState → DiskState → Type 0
+OneCounts a b old new = (counting new ≡ Some a) ⊎ ((counting new ≡ Some b) ⊎ AreGone old new)
 
 either_of : (test : Bool) (x y : Head) → (Some (cond test y x) ≡ Some x) ⊎ (Some (cond test y x) ≡ Some y)
 either_of true x y = inr refl
@@ -163,29 +165,25 @@ greater_left a b x first second = ap (λ (o : Option Head). greater o b) first �
 greater_right : (a b : Option Head) (y : Head) → a ≡ None → b ≡ Some y → greater a b ≡ Some y
 greater_right a b y first second = ap (λ (o : Option Head). greater o b) first ∙ ap (greater None) second
 
--- the place of a head was hurt
-WasHurt-head : (nodes : ℕ) (old new : DiskState) (place : ℕ) → place < 2 → StaysHurt (old.cells place) (new.cells place) → WasHurt nodes old
-WasHurt-head nodes old new place low hurt = record { place = place; kind = inl low; hurt = (hurt.ends.bytes, hurt.was) }
-
 -- while the first copy changes
-pub OneCounts-first : (nodes : ℕ) (a b : Head) (old new : DiskState) → MayReadHead a b (new.cells 0) → StandsOrHurt a (old.cells 1) (new.cells 1) → OneCounts nodes a b old new
-OneCounts-first nodes a b old new (inl x) (inl y) = elim (greater_of (good_of (head_read (read_at new 0))) (good_of (head_read (read_at new 1))) a a x y) [ inl is ↦ inl is | inr is ↦ inl is ]
-OneCounts-first nodes a b old new (inl x) (inr hurt) = inl (greater_left (good_of (head_read (read_at new 0))) (good_of (head_read (read_at new 1))) a x (IsGone-none (new.cells 1) (IsGone-hurt (new.cells 1) hurt.ends)))
-OneCounts-first nodes a b old new (inr (inl x)) (inl y) = elim (greater_of (good_of (head_read (read_at new 0))) (good_of (head_read (read_at new 1))) b a x y) [ inl is ↦ inr (inl is) | inr is ↦ inl is ]
-OneCounts-first nodes a b old new (inr (inl x)) (inr hurt) = inr (inl (greater_left (good_of (head_read (read_at new 0))) (good_of (head_read (read_at new 1))) b x (IsGone-none (new.cells 1) (IsGone-hurt (new.cells 1) hurt.ends))))
-OneCounts-first nodes a b old new (inr (inr gone)) (inl y) = inl (greater_right (good_of (head_read (read_at new 0))) (good_of (head_read (read_at new 1))) a (IsGone-none (new.cells 0) gone) y)
-OneCounts-first nodes a b old new (inr (inr gone)) (inr hurt) = inr (inr (record { first = gone; second = IsGone-hurt (new.cells 1) hurt.ends; was_hurt = WasHurt-head nodes old new 1 (omega arith) hurt }))
+pub OneCounts-first : (a b : Head) (old new : DiskState) → MayReadHead a b (new.cells 0) → StandsOrHurt a (old.cells 1) (new.cells 1) → OneCounts a b old new
+OneCounts-first a b old new (inl x) (inl y) = elim (greater_of (good_of (head_read (read_at new 0))) (good_of (head_read (read_at new 1))) a a x y) [ inl is ↦ inl is | inr is ↦ inl is ]
+OneCounts-first a b old new (inl x) (inr hurt) = inl (greater_left (good_of (head_read (read_at new 0))) (good_of (head_read (read_at new 1))) a x (IsGone-none (new.cells 1) (IsGone-hurt (new.cells 1) hurt.ends)))
+OneCounts-first a b old new (inr (inl x)) (inl y) = elim (greater_of (good_of (head_read (read_at new 0))) (good_of (head_read (read_at new 1))) b a x y) [ inl is ↦ inr (inl is) | inr is ↦ inl is ]
+OneCounts-first a b old new (inr (inl x)) (inr hurt) = inr (inl (greater_left (good_of (head_read (read_at new 0))) (good_of (head_read (read_at new 1))) b x (IsGone-none (new.cells 1) (IsGone-hurt (new.cells 1) hurt.ends))))
+OneCounts-first a b old new (inr (inr gone)) (inl y) = inl (greater_right (good_of (head_read (read_at new 0))) (good_of (head_read (read_at new 1))) a (IsGone-none (new.cells 0) gone) y)
+OneCounts-first a b old new (inr (inr gone)) (inr hurt) = inr (inr (record { first = gone; second = IsGone-hurt (new.cells 1) hurt.ends; place = 1; low = omega arith; was_hurt = (hurt.ends.bytes, hurt.was) }))
 
 -- while the second copy changes
-pub OneCounts-second : (nodes : ℕ) (a b : Head) (old new : DiskState) → StandsOrHurt b (old.cells 0) (new.cells 0) → MayReadHead a b (new.cells 1) → OneCounts nodes a b old new
-OneCounts-second nodes a b old new (inl x) (inl y) = elim (greater_of (good_of (head_read (read_at new 0))) (good_of (head_read (read_at new 1))) b a x y) [ inl is ↦ inr (inl is) | inr is ↦ inl is ]
-OneCounts-second nodes a b old new (inl x) (inr (inl y)) = elim (greater_of (good_of (head_read (read_at new 0))) (good_of (head_read (read_at new 1))) b b x y) [ inl is ↦ inr (inl is) | inr is ↦ inr (inl is) ]
-OneCounts-second nodes a b old new (inl x) (inr (inr gone)) = inr (inl (greater_left (good_of (head_read (read_at new 0))) (good_of (head_read (read_at new 1))) b x (IsGone-none (new.cells 1) gone)))
-OneCounts-second nodes a b old new (inr hurt) (inl y) = inl (greater_right (good_of (head_read (read_at new 0))) (good_of (head_read (read_at new 1))) a (IsGone-none (new.cells 0) (IsGone-hurt (new.cells 0) hurt.ends)) y)
-OneCounts-second nodes a b old new (inr hurt) (inr (inl y)) = inr (inl (greater_right (good_of (head_read (read_at new 0))) (good_of (head_read (read_at new 1))) b (IsGone-none (new.cells 0) (IsGone-hurt (new.cells 0) hurt.ends)) y))
-OneCounts-second nodes a b old new (inr hurt) (inr (inr gone)) = inr (inr (record { first = IsGone-hurt (new.cells 0) hurt.ends; second = gone; was_hurt = WasHurt-head nodes old new 0 (omega arith) hurt }))
+pub OneCounts-second : (a b : Head) (old new : DiskState) → StandsOrHurt b (old.cells 0) (new.cells 0) → MayReadHead a b (new.cells 1) → OneCounts a b old new
+OneCounts-second a b old new (inl x) (inl y) = elim (greater_of (good_of (head_read (read_at new 0))) (good_of (head_read (read_at new 1))) b a x y) [ inl is ↦ inr (inl is) | inr is ↦ inl is ]
+OneCounts-second a b old new (inl x) (inr (inl y)) = elim (greater_of (good_of (head_read (read_at new 0))) (good_of (head_read (read_at new 1))) b b x y) [ inl is ↦ inr (inl is) | inr is ↦ inr (inl is) ]
+OneCounts-second a b old new (inl x) (inr (inr gone)) = inr (inl (greater_left (good_of (head_read (read_at new 0))) (good_of (head_read (read_at new 1))) b x (IsGone-none (new.cells 1) gone)))
+OneCounts-second a b old new (inr hurt) (inl y) = inl (greater_right (good_of (head_read (read_at new 0))) (good_of (head_read (read_at new 1))) a (IsGone-none (new.cells 0) (IsGone-hurt (new.cells 0) hurt.ends)) y)
+OneCounts-second a b old new (inr hurt) (inr (inl y)) = inr (inl (greater_right (good_of (head_read (read_at new 0))) (good_of (head_read (read_at new 1))) b (IsGone-none (new.cells 0) (IsGone-hurt (new.cells 0) hurt.ends)) y))
+OneCounts-second a b old new (inr hurt) (inr (inr gone)) = inr (inr (record { first = IsGone-hurt (new.cells 0) hurt.ends; second = gone; place = 0; low = omega arith; was_hurt = (hurt.ends.bytes, hurt.was) }))
 
 -- where both stand
-pub OneCounts-both : (nodes : ℕ) (h : Head) (old new : DiskState) → StandsOrHurt h (old.cells 0) (new.cells 0) → StandsOrHurt h (old.cells 1) (new.cells 1) → (counting new ≡ Some h) ⊎ AreGone nodes old new
-OneCounts-both nodes h old new (inl x) second = elim (OneCounts-first nodes h h old new (inl x) second) [ inl is ↦ inl is | inr other ↦ other ]
-OneCounts-both nodes h old new (inr hurt) second = elim (OneCounts-first nodes h h old new (inr (inr (IsGone-hurt (new.cells 0) hurt.ends))) second) [ inl is ↦ inl is | inr other ↦ other ]
+pub OneCounts-both : (h : Head) (old new : DiskState) → StandsOrHurt h (old.cells 0) (new.cells 0) → StandsOrHurt h (old.cells 1) (new.cells 1) → (counting new ≡ Some h) ⊎ AreGone old new
+OneCounts-both h old new (inl x) second = elim (OneCounts-first h h old new (inl x) second) [ inl is ↦ inl is | inr other ↦ other ]
+OneCounts-both h old new (inr hurt) second = elim (OneCounts-first h h old new (inr (inr (IsGone-hurt (new.cells 0) hurt.ends))) second) [ inl is ↦ inl is | inr other ↦ other ]

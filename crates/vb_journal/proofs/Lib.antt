@@ -10,4 +10,4 @@ pub mod PlanSteps
 pub mod Resting
 pub mod StepsOfCommits
 pub mod TriedCells
-pub mod Unhurt
+pub mod Unharmed

@@ -12,12 +12,12 @@ use Rattle.vb_journal.specs.declared.commit_stage.Stage.TheVariants.{Journal, Op
 use Rattle.vb_journal.specs.declared.commit_stage.Turn.TheVariants.{First, FirstSync, Second, SecondSync}
 use Rattle.vb_journal.specs.Calls.{Makes, MayFailTo}
 use Rattle.vb_journal.specs.Images.{image_at, slot_of}
-use Rattle.vb_journal.specs.Outcomes.{IsRefused}
 use Rattle.vb_journal.specs.Plans.{CanFinish, CanGoOn, closed_head, due_call, is_early, is_rested, next_stage, opened_head}
-use Rattle.vb_journal.specs.Progress.{EachCrashRecovers, GoesOn, IsCommitting, RecoversAt}
+use Rattle.vb_journal.specs.Progress.{EachCrashRecovers, EachCrashRecoversWholly, GoesOn, IsCommitting}
 use Rattle.vb_journal.proofs.AfterCrashes.{EachCrashRecovers-stage}
 use Rattle.vb_journal.proofs.FirstCalls.{gone}
 use Rattle.vb_journal.proofs.Keeping.{keeps, keeps-homes, keeps-journal, retries-closing-first, retries-closing-second, retries-homes, retries-journal, retries-opening-first, retries-opening-second, writes-closing-first, writes-closing-second, writes-opening-first, writes-opening-second}
+use Rattle.vb_journal.proofs.Unharmed.{EachCrashRecoversWholly-before, EachCrashRecoversWholly-unharmed, IsUnharmed-due, IsUnharmed-tried}
 
 -- the disk is known at the stage, and is the one from before or the one after the call
 abbrev pub Tries : Head → ℕ → List (List ℕ) → (ℕ → List ℕ) → (ℕ → List ℕ) → Stage → DiskCall → DiskState → Option DiskState → Type 0
@@ -57,34 +57,13 @@ tries head epoch images homes journal (Closing Second) d told can going may is =
 tries head epoch images homes journal (Closing SecondSync) d told can going may is = tries_sync head epoch images homes journal (Closing SecondSync) d told may is
 tries head epoch images homes journal Rested d told can going may is = absurd (cc going)
 
--- what a crash leaves at the next stage it may leave at this one
-abbrev Survives : Head → ℕ → List (List ℕ) → (ℕ → List ℕ) → DiskState → DiskState → Stage → Type 0
-Survives head epoch images homes d new stage = RecoversAt head epoch images homes stage d new ⊎ IsRefused head.nodes d new
-
-cond_stage : (head : Head) (epoch : ℕ) (images : List (List ℕ)) (homes : ℕ → List ℕ) (b : Bool) (next : ℕ) (d new : DiskState) → Survives head epoch images homes d new (cond b (Journal (next + 1)) (Opening First)) → Survives head epoch images homes d new (Journal next)
-cond_stage head epoch images homes true next d new survives = survives
-cond_stage head epoch images homes false next d new survives = survives
-
-cond_home : (head : Head) (epoch : ℕ) (images : List (List ℕ)) (homes : ℕ → List ℕ) (b : Bool) (next : ℕ) (d new : DiskState) → Survives head epoch images homes d new (cond b (Homes (next + 1)) (Closing First)) → Survives head epoch images homes d new (Homes next)
-cond_home head epoch images homes true next d new survives = survives
-cond_home head epoch images homes false next d new survives = survives
-
-survives_before : (head : Head) (epoch : ℕ) (images : List (List ℕ)) (homes : ℕ → List ℕ) (stage : Stage) (d new : DiskState) → Survives head epoch images homes d new (next_stage (length images) stage) → Survives head epoch images homes d new stage
-survives_before head epoch images homes (Journal next) d new survives = cond_stage head epoch images homes (ltb next (length images)) next d new survives
-survives_before head epoch images homes (Opening First) d new survives = survives
-survives_before head epoch images homes (Opening FirstSync) d new survives = survives
-survives_before head epoch images homes (Opening Second) d new survives = survives
-survives_before head epoch images homes (Opening SecondSync) d new survives = elim survives [ inl recovers ↦ inl (inr recovers) | inr refused ↦ inr refused ]
-survives_before head epoch images homes (Homes next) d new survives = cond_home head epoch images homes (ltb next (length images)) next d new survives
-survives_before head epoch images homes (Closing First) d new survives = survives
-survives_before head epoch images homes (Closing FirstSync) d new survives = survives
-survives_before head epoch images homes (Closing Second) d new survives = survives
-survives_before head epoch images homes (Closing SecondSync) d new survives = survives
-survives_before head epoch images homes Rested d new survives = survives
-
 -- a moment that is known at the stage or at the one after it
 abbrev Known : Head → ℕ → List (List ℕ) → (ℕ → List ℕ) → (ℕ → List ℕ) → Stage → Stage → DiskState → Type 0
 Known head epoch images homes journal before after m = IsCommitting head epoch images homes journal before m ⊎ IsCommitting head epoch images homes journal after m
+
+-- each crash recovers as at the stage or as at the one after it
+abbrev Recovering : Head → ℕ → List (List ℕ) → (ℕ → List ℕ) → Stage → Stage → DiskState → Type 0
+Recovering head epoch images homes before after m = EachCrashRecovers head epoch images homes before m ⊎ EachCrashRecovers head epoch images homes after m
 
 homes_are_late : (b : Bool) (next : ℕ) → is_early (cond b (Homes (next + 1)) (Closing First)) ≡ true → is_early (Homes next) ≡ true
 homes_are_late true next is = is
@@ -113,37 +92,50 @@ goes_on-made head epoch images homes journal stage old new can old_is new_is goi
     let then = keeps head epoch images homes journal stage d can.finish.images_are going is in
     let next = next_stage (length images) stage in
     let call = due_call head epoch images stage in
+    let here = EachCrashRecovers-stage head epoch images homes journal stage d can (old_is d told) is in
+    let after = EachCrashRecovers-stage head epoch images homes journal next (after_call d call) (CanGoOn-next head epoch images stage can) (new_is (after_call d call) (made d told)) then in
     record {
       next = after_call d call;
       told = made d told;
       known = then;
       moments = EachMoment-call (Known head epoch images homes journal stage next) d call (inl is) (inr then);
-      crashes = EachMoment-call (EachCrashRecovers head epoch images homes stage) d call
-          (EachCrashRecovers-stage head epoch images homes journal stage d can (old_is d told) is)
-          (λ crashed crash. survives_before head epoch images homes stage (after_call d call) crashed (EachCrashRecovers-stage head epoch images homes journal next (after_call d call) (CanGoOn-next head epoch images stage can) (new_is (after_call d call) (made d told)) then crashed crash));
+      crashes = EachMoment-call (Recovering head epoch images homes stage next) d call (inl here) (inr after);
+      unharmed = IsUnharmed-due head epoch images stage d;
+      wholly = λ unharmed. EachMoment-call (EachCrashRecoversWholly head epoch images homes stage) d call
+          (EachCrashRecoversWholly-unharmed head epoch images homes stage d unharmed here)
+          (EachCrashRecoversWholly-before head epoch images homes stage (after_call d call) (EachCrashRecoversWholly-unharmed head epoch images homes next (after_call d call) (IsUnharmed-due head epoch images stage d unharmed) after));
     }
 
 pub goes_on-failed : (head : Head) (epoch : ℕ) (images : List (List ℕ)) (homes journal : ℕ → List ℕ) (stage : Stage) (old new : Option DiskState) → CanGoOn head epoch images stage → IsTold old → IsTold new → is_rested stage ≡ false → ((d : DiskState) → old ≡ Some d → MayFailTo (due_call head epoch images stage) d new) → GoesOn head epoch images homes journal stage stage old new
 goes_on-failed head epoch images homes journal stage old new can old_is new_is going failed d told is =
     let tried = tries head epoch images homes journal stage d new can.finish going (failed d told) is in
+    let call = due_call head epoch images stage in
+    let here = EachCrashRecovers-stage head epoch images homes journal stage d can (old_is d told) is in
+    let after = EachCrashRecovers-stage head epoch images homes journal stage tried.0 can (new_is tried.0 tried.1) tried.2 in
     record {
       next = tried.0;
       told = tried.1;
       known = tried.2;
-      moments = EachMoment-tried (Known head epoch images homes journal stage stage) d tried.0 (due_call head epoch images stage) tried.3 (inl is) (inl tried.2);
-      crashes = EachMoment-tried (EachCrashRecovers head epoch images homes stage) d tried.0 (due_call head epoch images stage) tried.3
-          (EachCrashRecovers-stage head epoch images homes journal stage d can (old_is d told) is)
-          (EachCrashRecovers-stage head epoch images homes journal stage tried.0 can (new_is tried.0 tried.1) tried.2);
+      moments = EachMoment-tried (Known head epoch images homes journal stage stage) d tried.0 call tried.3 (inl is) (inl tried.2);
+      crashes = EachMoment-tried (Recovering head epoch images homes stage stage) d tried.0 call tried.3 (inl here) (inl after);
+      unharmed = IsUnharmed-tried head images stage d tried.0 call tried.3;
+      wholly = λ unharmed. EachMoment-tried (EachCrashRecoversWholly head epoch images homes stage) d tried.0 call tried.3
+          (EachCrashRecoversWholly-unharmed head epoch images homes stage d unharmed here)
+          (EachCrashRecoversWholly-unharmed head epoch images homes stage tried.0 (IsUnharmed-tried head images stage d tried.0 call tried.3 unharmed) after);
     }
 
 pub goes_on-none : (head : Head) (epoch : ℕ) (images : List (List ℕ)) (homes journal : ℕ → List ℕ) (stage : Stage) (old new : Option DiskState) → CanGoOn head epoch images stage → IsTold old → new ≡ old → GoesOn head epoch images homes journal stage stage old new
-goes_on-none head epoch images homes journal stage old new can old_is same d told is = record {
-  next = d;
-  told = same ∙ told;
-  known = is;
-  moments = EachMoment-none (Known head epoch images homes journal stage stage) d (inl is);
-  crashes = EachMoment-none (EachCrashRecovers head epoch images homes stage) d (EachCrashRecovers-stage head epoch images homes journal stage d can (old_is d told) is);
-}
+goes_on-none head epoch images homes journal stage old new can old_is same d told is =
+    let here = EachCrashRecovers-stage head epoch images homes journal stage d can (old_is d told) is in
+    record {
+      next = d;
+      told = same ∙ told;
+      known = is;
+      moments = EachMoment-none (Known head epoch images homes journal stage stage) d (inl is);
+      crashes = EachMoment-none (Recovering head epoch images homes stage stage) d (inl here);
+      unharmed = λ unharmed. unharmed;
+      wholly = λ unharmed. EachMoment-none (EachCrashRecoversWholly head epoch images homes stage) d (EachCrashRecoversWholly-unharmed head epoch images homes stage d unharmed here);
+    }
 
 -- after an error the stage stands
 pub goes_on-gone : (head : Head) (epoch : ℕ) (images : List (List ℕ)) (homes journal : ℕ → List ℕ) (stage : Stage) (old new : Option DiskState) (e : DiskError) → CanGoOn head epoch images stage → IsTold old → IsTold new → is_rested stage ≡ false → Makes (due_call head epoch images stage) old new (gone {T = Unit {0}} e) → GoesOn head epoch images homes journal stage stage old new

@@ -1,5 +1,5 @@
 -- How far the places of a store have come while a commit goes on.
-use Rattle.std.specs.Prelude.{◌≡◌, ◌≢◌, ◌⊎◌, ℕ, suc, ◌+◌, ◌<◌, ◌≤◌, nat_lt, if◌then◌else◌, List, [], ◌∷◌, length, replicate, Option, Some}
+use Rattle.std.specs.Prelude.{◌≡◌, ◌≢◌, ◌⊎◌, ℕ, suc, ◌+◌, ◌<◌, ◌≤◌, nat_lt, if◌then◌else◌, List, [], ◌∷◌, length, replicate, Option, Some, None}
 use Rattle.vb_disk.specs.declared.cell.Cell.{Cell}
 use Rattle.vb_disk.specs.Cells.{candidates}
 use Rattle.vb_disk.specs.Crashes.{MayCrashTo}
@@ -12,7 +12,7 @@ use Rattle.vb_journal.specs.declared.commit_stage.Stage.TheVariants.{Journal, Op
 use Rattle.vb_journal.specs.declared.commit_stage.Turn.{Turn}
 use Rattle.vb_journal.specs.declared.commit_stage.Turn.TheVariants.{First, FirstSync, Second, SecondSync}
 use Rattle.vb_journal.specs.Images.{image_at, slot_of}
-use Rattle.vb_journal.specs.Outcomes.{IsRefused, Recovers}
+use Rattle.vb_journal.specs.Outcomes.{IsRefused, Recovers, RecoversWholly}
 use Rattle.vb_journal.specs.Plans.{closed_head, opened_head}
 use Rattle.vb_journal.specs.Shown.{image_over}
 
@@ -116,28 +116,61 @@ pub record HasSameCandidates (old new : DiskState) : Type 0 where
   pub size : new.size ≡ old.size
   pub each : (place : ℕ) → candidates (new.cells place) ≡ candidates (old.cells place)
 
--- what a crash at a stage leaves: a disk that recovers to the head and the images from before the commit or to the new
--- ones, and from the second sync of the opened heads on to the new ones
-abbrev pub RecoversAt : Head → ℕ → List (List ℕ) → (ℕ → List ℕ) → Stage → DiskState → DiskState → Type 0
-RecoversAt head epoch images homes (Journal next) old new = Recovers old new head homes ⊎ Recovers old new (closed_head head epoch) (new_images images homes)
-RecoversAt head epoch images homes (Opening turn) old new = Recovers old new head homes ⊎ Recovers old new (closed_head head epoch) (new_images images homes)
-RecoversAt head epoch images homes (Homes next) old new = Recovers old new (closed_head head epoch) (new_images images homes)
-RecoversAt head epoch images homes (Closing turn) old new = Recovers old new (closed_head head epoch) (new_images images homes)
-RecoversAt head epoch images homes Rested old new = Recovers old new (closed_head head epoch) (new_images images homes)
+-- ---- what crashes leave
 
--- each crash of a disk leaves one that recovers, or is refused where a head or a place of the journal was hurt before
+-- how many images of the journal a head may count in at a stage
+abbrev pub counted_at : ℕ → Stage → ℕ
+counted_at count (Journal next) = 0
+counted_at count (Opening turn) = count
+counted_at count (Homes next) = count
+counted_at count (Closing turn) = count
+counted_at count Rested = count
+
+-- how many were written by then
+abbrev pub written_at : ℕ → Stage → ℕ
+written_at count (Journal next) = next
+written_at count (Opening turn) = count
+written_at count (Homes next) = count
+written_at count (Closing turn) = count
+written_at count Rested = count
+
+-- this holds of the head and the images from before the commit or of the new ones, and from the second sync of the
+-- opened heads on of the new ones
+abbrev pub OldOrNew : Head → ℕ → List (List ℕ) → (ℕ → List ℕ) → (Head → (ℕ → List ℕ) → Type 0) → Stage → Type 0
+OldOrNew head epoch images homes P (Journal next) = P head homes ⊎ P (closed_head head epoch) (new_images images homes)
+OldOrNew head epoch images homes P (Opening turn) = P head homes ⊎ P (closed_head head epoch) (new_images images homes)
+OldOrNew head epoch images homes P (Homes next) = P (closed_head head epoch) (new_images images homes)
+OldOrNew head epoch images homes P (Closing turn) = P (closed_head head epoch) (new_images images homes)
+OldOrNew head epoch images homes P Rested = P (closed_head head epoch) (new_images images homes)
+
+-- each crash of a disk leaves one that recovers to the old or the new images, or is refused where a head was hurt
+-- before, or an image of the journal that a head may count in
 abbrev pub EachCrashRecovers : Head → ℕ → List (List ℕ) → (ℕ → List ℕ) → Stage → DiskState → Type 0
 EachCrashRecovers head epoch images homes stage d =
-    (new : DiskState) → MayCrashTo d new → RecoversAt head epoch images homes stage d new ⊎ IsRefused head.nodes d new
+    (new : DiskState) → MayCrashTo d new
+    → OldOrNew head epoch images homes (λ h pages. Recovers d new h pages) stage ⊎ IsRefused head.nodes (counted_at (length images) stage) d new
+
+-- each crash of a disk leaves one that recovers to exactly the old or the new images
+abbrev pub EachCrashRecoversWholly : Head → ℕ → List (List ℕ) → (ℕ → List ℕ) → Stage → DiskState → Type 0
+EachCrashRecoversWholly head epoch images homes stage d =
+    (new : DiskState) → MayCrashTo d new → OldOrNew head epoch images homes (λ h pages. RecoversWholly new h pages) stage
+
+-- no head and no home is hurt, and no place of the journal that was written
+pub record IsUnharmed (head : Head) (images : List (List ℕ)) (stage : Stage) (d : DiskState) : Type 0 where
+  pub heads_and_homes : (place : ℕ) → place < 2 + head.nodes → (d.cells place).hurt ≡ None
+  pub in_journal : (i : ℕ) → i < written_at (length images) stage → (d.cells (2 + head.nodes + i)).hurt ≡ None
 
 -- what a step leaves of a disk that is known at its stage: one that is known at the stage after it. Each moment
--- within it is known at the one stage or the other, and each crash at it recovers as at the first one.
+-- within it is known at the one stage or the other, and each crash at it recovers as at that one. An unharmed disk
+-- stays so, and each crash within the step recovers wholly.
 pub record GoesTo (head : Head) (epoch : ℕ) (images : List (List ℕ)) (homes journal : ℕ → List ℕ) (before after : Stage) (d : DiskState) (new : Option DiskState) : Type 0 where
   pub next : DiskState
   pub told : new ≡ Some next
   pub known : IsCommitting head epoch images homes journal after next
   pub moments : EachMoment (λ m. IsCommitting head epoch images homes journal before m ⊎ IsCommitting head epoch images homes journal after m) d next
-  pub crashes : EachMoment (EachCrashRecovers head epoch images homes before) d next
+  pub crashes : EachMoment (λ m. EachCrashRecovers head epoch images homes before m ⊎ EachCrashRecovers head epoch images homes after m) d next
+  pub unharmed : IsUnharmed head images before d → IsUnharmed head images after next
+  pub wholly : IsUnharmed head images before d → EachMoment (EachCrashRecoversWholly head epoch images homes before) d next
 
 -- so does each step of a disk that is known at its stage
 abbrev pub GoesOn : Head → ℕ → List (List ℕ) → (ℕ → List ℕ) → (ℕ → List ℕ) → Stage → Stage → Option DiskState → Option DiskState → Type 0

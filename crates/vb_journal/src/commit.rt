@@ -94,7 +94,7 @@ impl Commit {
 
         // Each moment within the step is known at the stage before or after it, and each crash at it leaves a disk
         // that recovers to the images from before the commit or to the new ones, and from Committed on to the new
-        // ones, but for what was hurt before the crash.
+        // ones, but for what was hurt before the crash. So it does wholly where heads and homes were whole.
         ensures crash { (homes journal : ℕ → List ℕ) → GoesOn (head_of self.old) (epoch_of self.old) (images_of self.old) homes journal
             (stage_of self.old) (stage_of self.new) (D.told disk.old) (D.told disk.new) }
     {

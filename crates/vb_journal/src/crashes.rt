@@ -1,14 +1,12 @@
 // What crashes leave while a commit goes on, and what damage leaves.
-ghost use Rattle.std.specs.Prelude.{◌≡◌, ℕ, List, ◌+◌, ◌*◌, Ok};
+ghost use Rattle.std.specs.Prelude.{ℕ, List};
 ghost use Rattle.vb_disk.specs.Crashes.{damaged};
 ghost use Rattle.vb_disk.specs.States.{DiskState, IsDiskState};
 ghost use Rattle.vb_head.specs.declared.head.Head.{Head};
 ghost use Rattle.vb_journal.specs.declared.commit_stage.Stage.{Stage};
 ghost use Rattle.vb_journal.specs.declared.commit_stage.Stage.TheVariants.{Rested};
-ghost use Rattle.vb_journal.specs.Outcomes.{recovery_from, AreUnhurt, IsRefused, Recovers};
 ghost use Rattle.vb_journal.specs.Plans.{closed_head, CanFinish, CanGoOn};
-ghost use Rattle.vb_journal.specs.Progress.{new_images, new_journal, EachCrashRecovers, HasSameCandidates, IsAtRest, IsCommitting};
-ghost use Rattle.vb_journal.specs.Shown.{pages_from};
+ghost use Rattle.vb_journal.specs.Progress.{new_images, new_journal, EachCrashRecovers, EachCrashRecoversWholly, HasSameCandidates, IsAtRest, IsCommitting, IsUnharmed};
 
 /// After each crash of a disk that is known at a stage of a commit, whichever candidates it picks and whatever it
 /// tears, the disk recovers to the node images from before the commit or to the new ones, and from Committed on to
@@ -19,11 +17,11 @@ pub fn each_crash_recovers()
         → EachCrashRecovers head epoch images homes stage d }
 {}
 
-/// Where no head, home or place of the journal was hurt before the crash, nothing is missed and nothing refused.
-pub fn an_unhurt_disk_recovers_wholly()
-    ensures wholly { (old new : DiskState) (head : Head) (images : ℕ → List ℕ) → AreUnhurt (2 + 2 * head.nodes) old
-        → Recovers old new head images → recovery_from new ≡ Ok (record { head = head; images = pages_from images 0 head.nodes }) }
-    ensures accepted { (nodes : ℕ) (old new : DiskState) → AreUnhurt (2 + 2 * nodes) old → ¬ IsRefused nodes old new }
+/// Where the disk is unharmed, each crash of it recovers wholly: nothing is missed and nothing refused.
+pub fn an_unharmed_disk_recovers_wholly()
+    ensures { (head : Head) (epoch : ℕ) (images : List (List ℕ)) (homes : ℕ → List ℕ) (stage : Stage) (d : DiskState)
+        → IsUnharmed head images stage d → EachCrashRecovers head epoch images homes stage d
+        → EachCrashRecoversWholly head epoch images homes stage d }
 {}
 
 /// A commit that rests leaves a store at rest, with the closed head and the new images, over which the next one may

@@ -9,7 +9,7 @@ mod recover_error;
 pub use commit::{Commit, Images};
 pub use commit_stage::{CommitStep, Stage, Turn};
 pub use crashes::{
-    a_rested_commit_is_at_rest, an_unhurt_disk_recovers_wholly, damage_leaves_a_commit,
+    a_rested_commit_is_at_rest, an_unharmed_disk_recovers_wholly, damage_leaves_a_commit,
     each_crash_recovers,
 };
 pub use recover_error::RecoverError;
