@@ -19,7 +19,7 @@ use Rattle.vb_journal.specs.Shown.{image_over, pages_from}
 use Rattle.vb_journal.proofs.Found.{Counts, IsRefused-gone, IsRefused-journal, ReadsOrHurt, Recovers-counting, journal_read}
 use Rattle.vb_journal.proofs.Heads.{AreGone, MayReadHead-Trying, OneCounts, OneCounts-both, OneCounts-first, OneCounts-second, StandsOrHurt-Fixed, counting}
 use Rattle.vb_journal.proofs.Overlays.{image_over-named, image_over-unnamed, named_or_not}
-use Rattle.vb_journal.proofs.TriedCells.{ReadsUnsealed-disk, Trying-from_Tried, read-Fixed}
+use Rattle.vb_journal.proofs.TriedCells.{ReadsUnsealed-disk, Trying-from_Tried, fixed_or_hurt}
 
 -- a crash in the midst of a commit
 record Crash (head : Head) (epoch : ℕ) (images : List (List ℕ)) (homes : ℕ → List ℕ) (d new : DiskState) : Type 0 where
@@ -32,7 +32,7 @@ record Crash (head : Head) (epoch : ℕ) (images : List (List ℕ)) (homes : ℕ
 
 -- a place that stands reads as its page, or it was hurt
 reads_or_hurt : (page : List ℕ) (d new : DiskState) (place : ℕ) → IsDiskState d → MayCrashTo d new → Has (Fixed page) (d.cells place) → ReadsOrHurt d new page place
-reads_or_hurt page d new place disk crash has = read-Fixed page (d.cells place) (new.cells place) (ReadsUnsealed-disk d place disk) has (crash.each place)
+reads_or_hurt page d new place disk crash has = fixed_or_hurt page (d.cells place) (new.cells place) (ReadsUnsealed-disk d place disk) has (crash.each place)
 
 -- the image of a node is the page of its home, or what its home read as when it was hurt
 abbrev HomeIs : DiskState → DiskState → List ℕ → ℕ → Type 0

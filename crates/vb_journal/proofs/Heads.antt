@@ -1,7 +1,7 @@
 -- The heads of a commit, and which of two counts.
 use Rattle.std.proofs.Common.{◌≡◌, ℕ, ◌<◌, Bool, true, false, cond, ltb, not, List, Option, Some, None, refl, sym, ap, subst, ◌∙◌, ◌⊎◌, inl, inr, arith}
 use Rattle.std.specs.Str.{bytes_eq}
-use Rattle.std.proofs.lemmas.Bool.{false_from_ne_true}
+use Rattle.std.proofs.lemmas.Bool.{false_from_ne_true, le-ltb}
 use Rattle.std.proofs.lemmas.Slice.Eq.{bytes_eq-Decides}
 use Rattle.sha2.specs.Sha256.{sha256}
 use Rattle.vb_block.specs.Pages.{IsSealed, seal_of, sealed_part}
@@ -20,7 +20,7 @@ use Rattle.vb_journal.specs.Outcomes.{IsHurt}
 use Rattle.vb_journal.specs.Plans.{CanCommit, CanGoOn, closed_head, opened_head}
 use Rattle.vb_journal.specs.Progress.{Fixed, Has, Trying}
 use Rattle.vb_journal.specs.Shown.{good_of, greater}
-use Rattle.vb_journal.proofs.TriedCells.{EndsHurt, ReadsUnsealed-disk, StaysHurt, read-Fixed, read-Trying}
+use Rattle.vb_journal.proofs.TriedCells.{EndsHurt, ReadsUnsealed-disk, StaysHurt, MayRead, fixed_or_hurt, trying_or_hurt}
 
 -- both heads of a commit are in their ranges
 opened_in_range : (head : Head) (epoch : ℕ) (images : List (List ℕ)) → CanCommit head epoch images → IsInRange (opened_head head epoch images)
@@ -115,7 +115,7 @@ MayReadHead old new cell = (good_of (head_read (read_of cell)) ≡ Some old) ⊎
 
 -- a copy that changes
 pub MayReadHead-Trying : (old new : Head) (d crashed : DiskState) (place : ℕ) → IsHead old → IsHead new → IsDiskState d → MayCrashTo d crashed → Has (Trying (head_page old) (head_page new)) (d.cells place) → MayReadHead old new (crashed.cells place)
-MayReadHead-Trying old new d crashed place old_is new_is disk crash has = elim (read-Trying (head_page old) (head_page new) (d.cells place) (crashed.cells place) (ReadsUnsealed-disk d place disk) has (crash.each place)) [
+MayReadHead-Trying old new d crashed place old_is new_is disk crash has = elim (trying_or_hurt (head_page old) (head_page new) (d.cells place) (crashed.cells place) (ReadsUnsealed-disk d place disk) has (crash.each place)) [
   | inl is ↦ inl (good_of-head_page old (read_of (crashed.cells place)) old_is is)
   | inr other ↦ elim other [
     | inl is ↦ inr (inl (good_of-head_page new (read_of (crashed.cells place)) new_is is))
@@ -128,7 +128,7 @@ abbrev pub StandsOrHurt : Head → Cell → Cell → Type 0
 StandsOrHurt h old new = (good_of (head_read (read_of new)) ≡ Some h) ⊎ StaysHurt old new
 
 pub StandsOrHurt-Fixed : (h : Head) (d crashed : DiskState) (place : ℕ) → IsHead h → IsDiskState d → MayCrashTo d crashed → Has (Fixed (head_page h)) (d.cells place) → StandsOrHurt h (d.cells place) (crashed.cells place)
-StandsOrHurt-Fixed h d crashed place is disk crash has = elim (read-Fixed (head_page h) (d.cells place) (crashed.cells place) (ReadsUnsealed-disk d place disk) has (crash.each place)) [
+StandsOrHurt-Fixed h d crashed place is disk crash has = elim (fixed_or_hurt (head_page h) (d.cells place) (crashed.cells place) (ReadsUnsealed-disk d place disk) has (crash.each place)) [
   | inl same ↦ inl (good_of-head_page h (read_of (crashed.cells place)) is same)
   | inr hurt ↦ inr hurt
 ]
@@ -187,3 +187,43 @@ OneCounts-second a b old new (inr hurt) (inr (inr gone)) = inr (inr (record { fi
 pub OneCounts-both : (h : Head) (old new : DiskState) → StandsOrHurt h (old.cells 0) (new.cells 0) → StandsOrHurt h (old.cells 1) (new.cells 1) → (counting new ≡ Some h) ⊎ AreGone old new
 OneCounts-both h old new (inl x) second = elim (OneCounts-first h h old new (inl x) second) [ inl is ↦ inl is | inr other ↦ other ]
 OneCounts-both h old new (inr hurt) second = elim (OneCounts-first h h old new (inr (inr (IsGone-hurt (new.cells 0) hurt.ends))) second) [ inl is ↦ inl is | inr other ↦ other ]
+
+-- ---- which head counts where both places were whole
+
+-- what a copy may read as while it changes
+abbrev pub CanBe : Head → Head → Option Head → Type 0
+CanBe old new o = (o ≡ Some old) ⊎ ((o ≡ Some new) ⊎ (o ≡ None))
+
+pub CanBe-read : (old new : Head) (page : List ℕ) → IsHead old → IsHead new → MayRead (head_page old) (head_page new) page → CanBe old new (good_of (head_read page))
+CanBe-read old new page old_is new_is may = elim may [
+  | inl is ↦ inl (good_of-head_page old page old_is is)
+  | inr other ↦ elim other [
+    | inl is ↦ inr (inl (good_of-head_page new page new_is is))
+    | inr unsealed ↦ inr (inr (good_of-unsealed page unsealed))
+  ]
+]
+
+-- of two equal ones it doesn't matter which
+pub greater-same : (h : Head) (a b : Option Head) → a ≡ Some h → b ≡ Some h → greater a b ≡ Some h
+greater-same h a b first second =
+    ap (λ (o : Option Head). greater o b) first ∙ ap (greater (Some h)) second ∙ ap (λ (t : Bool). Some (cond t h h)) (le-ltb h.sequence h.sequence (omega arith))
+
+-- while the first copy changes, the one or the other counts
+pub greater-first : (old new : Head) (a b : Option Head) → old.sequence < new.sequence → CanBe old new a → b ≡ Some old → (greater a b ≡ Some old) ⊎ (greater a b ≡ Some new)
+greater-first old new a b rises can second = elim can [
+  | inl is ↦ inl (greater-same old a b is second)
+  | inr other ↦ elim other [
+    | inl is ↦ inr (ap (λ (o : Option Head). greater o b) is ∙ ap (greater (Some new)) second ∙ ap (λ (t : Bool). Some (cond t old new)) (le-ltb new.sequence old.sequence (omega arith)))
+    | inr none ↦ inl (ap (λ (o : Option Head). greater o b) none ∙ ap (greater None) second)
+  ]
+]
+
+-- while the second copy changes, the new one counts
+pub greater-second : (old new : Head) (a b : Option Head) → old.sequence < new.sequence → a ≡ Some new → CanBe old new b → greater a b ≡ Some new
+greater-second old new a b rises first can = elim can [
+  | inl is ↦ ap (λ (o : Option Head). greater o b) first ∙ ap (greater (Some new)) is ∙ ap (λ (t : Bool). Some (cond t old new)) (le-ltb new.sequence old.sequence (omega arith))
+  | inr other ↦ elim other [
+    | inl is ↦ greater-same new a b first is
+    | inr none ↦ ap (λ (o : Option Head). greater o b) first ∙ ap (greater (Some new)) none
+  ]
+]

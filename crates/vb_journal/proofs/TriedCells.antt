@@ -92,6 +92,10 @@ pub record StaysHurt (old new : Cell) : Type 0 where
   pub ends : EndsHurt new
   pub was : old.hurt ≡ Some ends.bytes
 
+-- what a place may read as after a crash while it changes: the old page, the new one, or bytes that aren't sealed
+abbrev pub MayRead : List ℕ → List ℕ → List ℕ → Type 0
+MayRead old new page = (page ≡ old) ⊎ ((page ≡ new) ⊎ (¬ IsSealed page))
+
 replicate-at : (n i : ℕ) (x d : List ℕ) → i < n → get_or (replicate n x) i d ≡ x
 replicate-at zero i x d past = absurd (omega arith)
 replicate-at (suc n) zero x d within = refl
@@ -149,9 +153,30 @@ whole_trying old new before after whole has crash = elim crash.hurt [
   | inr torn ↦ inr (inr (ends_torn before after torn))
 ]
 
+-- a place that stands has one candidate, so that no crash tears it
+none_later : (page : List ℕ) (cell : Cell) → Has (Fixed page) cell → length cell.later ≡ 0
+none_later page cell has = let none : cell.later ≡ [] = cc has in ap length none
+
+-- a whole place that stands reads as before
+pub read-Fixed : (page : List ℕ) (before after : Cell) → before.hurt ≡ None → Has (Fixed page) before → CellMayCrashTo before after → read_of after ≡ page
+read-Fixed page before after whole has crash = elim crash.hurt [
+  | inl as_before ↦ read_alone after crash.alone (as_before ∙ whole) ∙ alone_of page after.first (subst (λ (l : List (List ℕ)). Contains l after.first) has crash.picked)
+  | inr torn ↦ absurd (omega (arith, torn.several, none_later page before has))
+]
+
+-- what a whole place may read as that changes
+pub MayRead-Trying : (old new : List ℕ) (before after : Cell) → before.hurt ≡ None → Has (Trying old new) before → CellMayCrashTo before after → MayRead old new (read_of after)
+MayRead-Trying old new before after whole has crash = elim (whole_trying old new before after whole has crash) [
+  | inl is ↦ inl is
+  | inr other ↦ elim other [
+    | inl is ↦ inr (inl is)
+    | inr hurt ↦ inr (inr (λ sealed. hurt.unsealed (subst IsSealed hurt.reads sealed)))
+  ]
+]
+
 -- what a place may read as that changes: the old page, the new one, or as it is hurt
-pub read-Trying : (old new : List ℕ) (before after : Cell) → ReadsUnsealed before → Has (Trying old new) before → CellMayCrashTo before after → (read_of after ≡ old) ⊎ ((read_of after ≡ new) ⊎ EndsHurt after)
-read-Trying old new before after unsealed has crash = elim (hurt_or_whole before.hurt) [
+pub trying_or_hurt : (old new : List ℕ) (before after : Cell) → ReadsUnsealed before → Has (Trying old new) before → CellMayCrashTo before after → (read_of after ≡ old) ⊎ ((read_of after ≡ new) ⊎ EndsHurt after)
+trying_or_hurt old new before after unsealed has crash = elim (hurt_or_whole before.hurt) [
   | inl whole ↦ whole_trying old new before after whole has crash
   | inr hurt ↦ elim crash.hurt [
     | inl as_before ↦ inr (inr (stays before after hurt.0 unsealed hurt.1 as_before).ends)
@@ -159,16 +184,12 @@ read-Trying old new before after unsealed has crash = elim (hurt_or_whole before
   ]
 ]
 
--- a place that stands has one candidate, so that no crash tears it
-none_later : (page : List ℕ) (cell : Cell) → Has (Fixed page) cell → length cell.later ≡ 0
-none_later page cell has = let none : cell.later ≡ [] = cc has in ap length none
-
 -- a place that stands reads as before, or was hurt and stays so
-pub read-Fixed : (page : List ℕ) (before after : Cell) → ReadsUnsealed before → Has (Fixed page) before → CellMayCrashTo before after → (read_of after ≡ page) ⊎ StaysHurt before after
-read-Fixed page before after unsealed has crash = elim crash.hurt [
-  | inl as_before ↦ elim (hurt_or_whole before.hurt) [
-    | inl whole ↦ inl (read_alone after crash.alone (as_before ∙ whole) ∙ alone_of page after.first (subst (λ (l : List (List ℕ)). Contains l after.first) has crash.picked))
-    | inr hurt ↦ inr (stays before after hurt.0 unsealed hurt.1 as_before)
+pub fixed_or_hurt : (page : List ℕ) (before after : Cell) → ReadsUnsealed before → Has (Fixed page) before → CellMayCrashTo before after → (read_of after ≡ page) ⊎ StaysHurt before after
+fixed_or_hurt page before after unsealed has crash = elim (hurt_or_whole before.hurt) [
+  | inl whole ↦ inl (read-Fixed page before after whole has crash)
+  | inr hurt ↦ elim crash.hurt [
+    | inl as_before ↦ inr (stays before after hurt.0 unsealed hurt.1 as_before)
+    | inr torn ↦ absurd (omega (arith, torn.several, none_later page before has))
   ]
-  | inr torn ↦ absurd (omega (arith, torn.several, none_later page before has))
 ]

@@ -40,6 +40,7 @@ impl Commit {
         ensures head { head_of result ≡ head }
         ensures epoch { epoch_of result ≡ epoch }
         ensures images { images_of result ≡ images }
+        ensures stage { stage_of result ≡ Stage.Journal 0 }
         ensures calls { length (calls_left result) ≡ 2 * length images + 10 }
 
         // Over a store at rest it is known at its first stage.

@@ -5,8 +5,13 @@ ghost use Rattle.vb_disk.specs.States.{DiskState, IsDiskState};
 ghost use Rattle.vb_head.specs.declared.head.Head.{Head};
 ghost use Rattle.vb_journal.specs.declared.commit_stage.Stage.{Stage};
 ghost use Rattle.vb_journal.specs.declared.commit_stage.Stage.TheVariants.{Rested};
-ghost use Rattle.vb_journal.specs.Plans.{closed_head, CanFinish, CanGoOn};
+ghost use Rattle.vb_journal.specs.Plans.{closed_head, CanCommit, CanFinish, CanGoOn};
 ghost use Rattle.vb_journal.specs.Progress.{new_images, new_journal, EachCrashRecovers, EachCrashRecoversWholly, HasSameCandidates, IsAtRest, IsCommitting, IsUnharmed};
+
+/// What may be committed can go on from each stage.
+pub fn a_commit_can_go_on()
+    ensures { (head : Head) (epoch : ℕ) (images : List (List ℕ)) (stage : Stage) → CanCommit head epoch images → CanGoOn head epoch images stage }
+{}
 
 /// After each crash of a disk that is known at a stage of a commit, whichever candidates it picks and whatever it
 /// tears, the disk recovers to the node images from before the commit or to the new ones, and from Committed on to

@@ -9,8 +9,8 @@ mod recover_error;
 pub use commit::{Commit, Images};
 pub use commit_stage::{CommitStep, Stage, Turn};
 pub use crashes::{
-    a_rested_commit_is_at_rest, an_unharmed_disk_recovers_wholly, damage_leaves_a_commit,
-    each_crash_recovers,
+    a_commit_can_go_on, a_rested_commit_is_at_rest, an_unharmed_disk_recovers_wholly,
+    damage_leaves_a_commit, each_crash_recovers,
 };
 pub use recover_error::RecoverError;
 pub use vb_head::{Head, HeadRead, State, read_head, write_head};
