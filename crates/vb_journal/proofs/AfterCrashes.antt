@@ -5,7 +5,7 @@ use Rattle.vb_disk.specs.States.{DiskState, IsDiskState, read_at}
 use Rattle.vb_head.specs.declared.head.Head.{Head}
 use Rattle.vb_head.specs.declared.head.State.{State}
 use Rattle.vb_head.specs.declared.head.State.TheVariants.{Closed}
-use Rattle.vb_head.specs.Heads.{IsHead, count_of, head_page}
+use Rattle.vb_head.specs.Heads.{IsHead, IsInRange, count_of, head_page}
 use Rattle.vb_journal.specs.declared.commit_stage.Stage.{Stage}
 use Rattle.vb_journal.specs.declared.commit_stage.Stage.TheVariants.{Journal, Opening, Homes, Closing, Rested}
 use Rattle.vb_journal.specs.declared.commit_stage.Turn.{Turn}
@@ -13,7 +13,7 @@ use Rattle.vb_journal.specs.declared.commit_stage.Turn.TheVariants.{First, First
 use Rattle.vb_journal.specs.Images.{image_at, slot_of}
 use Rattle.vb_journal.specs.Outcomes.{IsRefused, Recovers}
 use Rattle.vb_journal.specs.Plans.{CanCommit, CanFinish, CanGoOn, closed_head, opened_head}
-use Rattle.vb_journal.specs.Progress.{EachCrashRecovers, Fixed, Has, IsCommitting, IsUnnamed, first_in, new_images, second_in}
+use Rattle.vb_journal.specs.Progress.{EachCrashRecovers, EachCrashStays, Fixed, Has, IsAtRest, IsCommitting, IsUnnamed, first_in, new_images, second_in}
 use Rattle.vb_journal.specs.Recoveries.{images_refusal, is_rebuilding, journal_of, node_image, settled_from}
 use Rattle.vb_journal.specs.Shown.{image_over, pages_from}
 use Rattle.vb_journal.proofs.Found.{Counts, IsRefused-gone, IsRefused-journal, ReadsOrHurt, Recovers-counting, journal_read}
@@ -44,26 +44,33 @@ home_is page d new slot disk crash has = elim (reads_or_hurt page d new (2 + slo
   | inr hurt ↦ inr (hurt.was ∙ ap (λ (p : List ℕ). let o : Option (List ℕ) = Some p in o) (sym hurt.ends.reads))
 ]
 
+-- the disk is large enough for a store, and has the size of the head
+large : (head : Head) (epoch : ℕ) (images : List (List ℕ)) (homes : ℕ → List ℕ) (d new : DiskState) → Crash head epoch images homes d new → 38 ≤ new.size
+large head epoch images homes d new c =
+    let space = c.can.closed.space in
+    let low = c.can.closed.nodes_low in
+    let same = c.size in
+    let stays = c.crash.size in
+    omega arith
+
+fits_head : (head : Head) (epoch : ℕ) (images : List (List ℕ)) (homes : ℕ → List ℕ) (d new : DiskState) → Crash head epoch images homes d new → head.blocks ≡ new.size
+fits_head head epoch images homes d new c = sym c.size ∙ sym c.crash.size
+
 -- ---- what is recovered where this head counts
 
--- a closed head of this store counts
-closed_counts : (head h : Head) (epoch : ℕ) (images : List (List ℕ)) (homes : ℕ → List ℕ) (d new : DiskState) (pages : ℕ → List ℕ) → Crash head epoch images homes d new → counting new ≡ Some h → h.state ≡ Closed → h.blocks ≡ head.blocks → h.nodes ≡ head.nodes → ((slot : ℕ) → slot < head.nodes → HomeIs d new (pages slot) slot) → Recovers d new h pages
-closed_counts head h epoch images homes d new pages c counts closed blocks nodes each =
+-- a closed head counts
+closed_counts : (h : Head) (d new : DiskState) (pages : ℕ → List ℕ) → 38 ≤ new.size → counting new ≡ Some h → h.state ≡ Closed → h.blocks ≡ new.size → ((slot : ℕ) → slot < h.nodes → HomeIs d new (pages slot) slot) → Recovers d new h pages
+closed_counts h d new pages large counts closed fits each =
     let reads : ℕ → List ℕ = λ q. read_at new q in
     let none : journal_of reads h ≡ [] = ap (λ (s : State). pages_from reads (2 + h.nodes) (count_of s)) closed in
     Recovers-counting d new h h pages
-    (record {
-      large = (let space = c.can.closed.space in let low = c.can.closed.nodes_low in let same = c.size in let stays = c.crash.size in omega arith);
-      is = counts;
-      fits = blocks ∙ sym c.size ∙ sym c.crash.size;
-      made = ap is_rebuilding closed;
-    })
+    (record { large = large; is = counts; fits = fits; made = ap is_rebuilding closed })
     (ap (images_refusal h.nodes (2 + h.nodes) []) none)
     (ap (settled_from h) closed)
     refl
     (λ slot within.
     let bare : node_image reads h slot ≡ read_at new (2 + slot) = ap (λ (l : List (List ℕ)). image_over l slot (reads (2 + slot))) none in
-    elim (each slot (omega (arith, nodes))) [
+    elim (each slot within) [
       | inl is ↦ inl (bare ∙ is)
       | inr hurt ↦ inr (hurt ∙ ap (λ (p : List ℕ). let o : Option (List ℕ) = Some p in o) (sym bare))
     ])
@@ -93,9 +100,9 @@ journal_counts head epoch images homes d new c counts is accepts =
 opened_counts : (head : Head) (epoch : ℕ) (images : List (List ℕ)) (homes : ℕ → List ℕ) (d new : DiskState) → Crash head epoch images homes d new → counting new ≡ Some (opened_head head epoch images) → ((i : ℕ) → i < length images → Has (Fixed (image_at images i)) (d.cells (2 + head.nodes + i))) → Recovers d new (closed_head head epoch) (new_images images homes) ⊎ IsRefused head.nodes (length images) d new
 opened_counts head epoch images homes d new c is journal =
     let counts : Counts new (opened_head head epoch images) = record {
-      large = (let space = c.can.closed.space in let low = c.can.closed.nodes_low in let same = c.size in let stays = c.crash.size in omega arith);
+      large = large head epoch images homes d new c;
       is = is;
-      fits = sym c.size ∙ sym c.crash.size;
+      fits = fits_head head epoch images homes d new c;
       made = refl;
     } in
     elim (journal_read head.nodes (2 + head.nodes) d new images c.can.images_are (λ i within. reads_or_hurt (image_at images i) d new (2 + head.nodes + i) c.disk c.crash (journal i within))) [
@@ -106,7 +113,7 @@ opened_counts head epoch images homes d new c is journal =
 -- the head from before counts, and no home was written
 before_counts : (head : Head) (epoch : ℕ) (images : List (List ℕ)) (homes : ℕ → List ℕ) (d new : DiskState) → Crash head epoch images homes d new → head.state ≡ Closed → counting new ≡ Some head → ((i : ℕ) → i < length images → Has (Fixed (homes (slot_of (image_at images i)))) (d.cells (2 + slot_of (image_at images i)))) → Recovers d new head homes
 before_counts head epoch images homes d new c closed is home =
-    closed_counts head head epoch images homes d new homes c is closed refl refl
+    closed_counts head d new homes (large head epoch images homes d new c) is closed (fits_head head epoch images homes d new c)
     (λ slot within. elim (named_or_not images slot) [
       | inl named ↦ subst (λ (s : ℕ). HomeIs d new (homes s) s) named.is (home_is (homes (slot_of (image_at images named.at))) d new (slot_of (image_at images named.at)) c.disk c.crash (home named.at named.within))
       | inr unnamed ↦ home_is (homes slot) d new slot c.disk c.crash (c.others slot within unnamed)
@@ -116,7 +123,7 @@ before_counts head epoch images homes d new c closed is home =
 after_counts : (head : Head) (epoch : ℕ) (images : List (List ℕ)) (homes : ℕ → List ℕ) (d new : DiskState) → Crash head epoch images homes d new → counting new ≡ Some (closed_head head epoch) → ((i : ℕ) → i < length images → Has (Fixed (image_at images i)) (d.cells (2 + slot_of (image_at images i)))) → Recovers d new (closed_head head epoch) (new_images images homes)
 after_counts head epoch images homes d new c is home =
     let are = c.can.images_are in
-    closed_counts head (closed_head head epoch) epoch images homes d new (new_images images homes) c is refl refl refl
+    closed_counts (closed_head head epoch) d new (new_images images homes) (large head epoch images homes d new c) is refl (fits_head head epoch images homes d new c)
     (λ slot within. elim (named_or_not images slot) [
       | inl named ↦
           let image = image_at images named.at in
@@ -142,15 +149,6 @@ same_counts h d new is disk crash first second = OneCounts-both h d new (StandsO
 
 crash_at : (head : Head) (epoch : ℕ) (images : List (List ℕ)) (homes journal : ℕ → List ℕ) (stage : Stage) (d new : DiskState) → CanFinish head epoch images → IsDiskState d → IsCommitting head epoch images homes journal stage d → MayCrashTo d new → Crash head epoch images homes d new
 crash_at head epoch images homes journal stage d new can disk is crash = record { can = can; id = is.id; size = is.size; disk = disk; crash = crash; others = is.others }
-
--- a disk that was hurt may be refused
-large : (head : Head) (epoch : ℕ) (images : List (List ℕ)) (homes : ℕ → List ℕ) (d new : DiskState) → Crash head epoch images homes d new → 38 ≤ new.size
-large head epoch images homes d new c =
-    let space = c.can.closed.space in
-    let low = c.can.closed.nodes_low in
-    let same = c.size in
-    let stays = c.crash.size in
-    omega arith
 
 -- while the heads are opened
 while_opening : (head : Head) (epoch : ℕ) (images : List (List ℕ)) (homes journal : ℕ → List ℕ) (turn : Turn) (d new : DiskState) → CanGoOn head epoch images (Opening turn) → Crash head epoch images homes d new → IsCommitting head epoch images homes journal (Opening turn) d → (Recovers d new head homes ⊎ Recovers d new (closed_head head epoch) (new_images images homes)) ⊎ IsRefused head.nodes (length images) d new
@@ -206,4 +204,14 @@ EachCrashRecovers-stage head epoch images homes journal Rested d can disk is new
     elim (same_counts (closed_head head epoch) d new closed disk crash is.first is.second) [
       | inl counts ↦ inl (after_counts head epoch images homes d new c counts is.at_home)
       | inr gone ↦ inr (IsRefused-gone head.nodes (length images) d new (large head epoch images homes d new c) gone)
+    ]
+
+-- after a crash of a store at rest
+pub EachCrashStays-rest : (head : Head) (homes journal : ℕ → List ℕ) (d : DiskState) → IsInRange head → head.state ≡ Closed → IsDiskState d → IsAtRest head homes journal d → EachCrashStays head homes d
+EachCrashStays-rest head homes journal d range closed disk is new crash =
+    let is_head : IsHead head = record { range = range; id_length = is.id } in
+    let big : 38 ≤ new.size = (let space = range.space in let low = range.nodes_low in let same = is.size in let stays = crash.size in omega arith) in
+    elim (same_counts head d new is_head disk crash is.first is.second) [
+      | inl counts ↦ inl (closed_counts head d new homes big counts closed (sym is.size ∙ sym crash.size) (λ slot within. home_is (homes slot) d new slot disk crash (is.each_home slot within)))
+      | inr gone ↦ inr (IsRefused-gone head.nodes 0 d new big gone)
     ]

@@ -1,5 +1,5 @@
 -- Each call of a commit keeps what is known of its places.
-use Rattle.std.proofs.Common.{◌≡◌, ◌≢◌, ℕ, ◌+◌, ◌<◌, ◌≤◌, Bool, true, false, cond, eqb, ltb, List, length, refl, sym, subst, ◌∙◌, inl, inr, arith}
+use Rattle.std.proofs.Common.{◌≡◌, ◌≢◌, ℕ, ◌+◌, ◌*◌, ◌<◌, ◌≤◌, Bool, true, false, cond, eqb, ltb, List, length, refl, sym, ap, subst, ◌∙◌, inl, inr, arith}
 use Rattle.std.proofs.lemmas.Bool.{cases_eq, cases_lt, lt-ltb, le-ltb}
 use Rattle.vb_disk.specs.declared.cell.Cell.{Cell}
 use Rattle.vb_disk.specs.Cells.{candidates, hurt_cell, synced_cell}
@@ -11,9 +11,9 @@ use Rattle.vb_journal.specs.declared.commit_stage.Stage.{Stage}
 use Rattle.vb_journal.specs.declared.commit_stage.Stage.TheVariants.{Journal, Opening, Homes, Closing, Rested}
 use Rattle.vb_journal.specs.declared.commit_stage.Turn.TheVariants.{First, FirstSync, Second, SecondSync}
 use Rattle.vb_journal.specs.Images.{AreImages, image_at, slot_of}
-use Rattle.vb_journal.specs.Plans.{closed_head, due_call, is_rested, next_stage, opened_head}
+use Rattle.vb_journal.specs.Plans.{CanFinish, closed_head, due_call, is_rested, next_stage, opened_head}
 use Rattle.vb_journal.specs.Progress.{Fixed, Has, HasSameCandidates, IsAtRest, IsCommitting, Tried, Trying, first_at, home_at, journal_at, passed_by, second_at}
-use Rattle.vb_journal.proofs.TriedCells.{Fixed-stays, Fixed-synced, Has-elsewhere, Has-here, Has-same, Trying-from_Fixed, Trying-from_Tried}
+use Rattle.vb_journal.proofs.TriedCells.{Fixed-stays, Fixed-synced, Has-elsewhere, Has-here, Has-same, Trying-from_Fixed, Trying-from_Tried, written-elsewhere}
 
 -- ---- images that were passed by
 
@@ -379,36 +379,54 @@ IsCommitting-opened head epoch images homes journal d fits are is counted = reco
 -- ---- damage
 
 -- what is known is known of the candidates
-pub IsCommitting-same : (head : Head) (epoch : ℕ) (images : List (List ℕ)) (homes journal : ℕ → List ℕ) (stage : Stage) (old new : DiskState) → HasSameCandidates old new → IsCommitting head epoch images homes journal stage old → IsCommitting head epoch images homes journal stage new
-IsCommitting-same head epoch images homes journal stage old new same is =
+pub IsCommitting-same : (head : Head) (epoch : ℕ) (images : List (List ℕ)) (homes journal : ℕ → List ℕ) (stage : Stage) (old new : DiskState) → CanFinish head epoch images → HasSameCandidates (2 + 2 * head.nodes) old new → IsCommitting head epoch images homes journal stage old → IsCommitting head epoch images homes journal stage new
+IsCommitting-same head epoch images homes journal stage old new can same is =
     let before = head_page head in
     let opened = head_page (opened_head head epoch images) in
     let closed = head_page (closed_head head epoch) in
+    let few : length images ≤ head.nodes = can.opened.count in
     record {
       id = is.id;
       size = same.size ∙ is.size;
-      first = Has-same (first_at before opened closed stage) (old.cells 0) (new.cells 0) (same.each 0) is.first;
-      second = Has-same (second_at before opened closed stage) (old.cells 1) (new.cells 1) (same.each 1) is.second;
-      in_journal = λ i within. let p = 2 + head.nodes + i in Has-same (journal_at i (journal i) (image_at images i) stage) (old.cells p) (new.cells p) (same.each p) (is.in_journal i within);
-      at_home = λ i within. let p = 2 + slot_of (image_at images i) in Has-same (home_at i (homes (slot_of (image_at images i))) (image_at images i) stage) (old.cells p) (new.cells p) (same.each p) (is.at_home i within);
-      beyond = λ i past within. let p = 2 + head.nodes + i in Has-same (Fixed (journal i)) (old.cells p) (new.cells p) (same.each p) (is.beyond i past within);
-      others = λ slot within unnamed. Has-same (Fixed (homes slot)) (old.cells (2 + slot)) (new.cells (2 + slot)) (same.each (2 + slot)) (is.others slot within unnamed);
+      first = Has-same (first_at before opened closed stage) (old.cells 0) (new.cells 0) (same.each 0 (omega arith)) is.first;
+      second = Has-same (second_at before opened closed stage) (old.cells 1) (new.cells 1) (same.each 1 (omega arith)) is.second;
+      in_journal = λ i within. let p = 2 + head.nodes + i in Has-same (journal_at i (journal i) (image_at images i) stage) (old.cells p) (new.cells p) (same.each p (omega arith)) (is.in_journal i within);
+      at_home = λ i within. let low = can.images_are.slots i within in let p = 2 + slot_of (image_at images i) in Has-same (home_at i (homes (slot_of (image_at images i))) (image_at images i) stage) (old.cells p) (new.cells p) (same.each p (omega arith)) (is.at_home i within);
+      beyond = λ i past within. let p = 2 + head.nodes + i in Has-same (Fixed (journal i)) (old.cells p) (new.cells p) (same.each p (omega arith)) (is.beyond i past within);
+      others = λ slot within unnamed. Has-same (Fixed (homes slot)) (old.cells (2 + slot)) (new.cells (2 + slot)) (same.each (2 + slot) (omega arith)) (is.others slot within unnamed);
     }
 
-pub IsAtRest-same : (head : Head) (homes journal : ℕ → List ℕ) (old new : DiskState) → HasSameCandidates old new → IsAtRest head homes journal old → IsAtRest head homes journal new
+pub IsAtRest-same : (head : Head) (homes journal : ℕ → List ℕ) (old new : DiskState) → HasSameCandidates (2 + 2 * head.nodes) old new → IsAtRest head homes journal old → IsAtRest head homes journal new
 IsAtRest-same head homes journal old new same is = record {
   id = is.id;
   size = same.size ∙ is.size;
-  first = Has-same (Fixed (head_page head)) (old.cells 0) (new.cells 0) (same.each 0) is.first;
-  second = Has-same (Fixed (head_page head)) (old.cells 1) (new.cells 1) (same.each 1) is.second;
-  each_home = λ slot within. Has-same (Fixed (homes slot)) (old.cells (2 + slot)) (new.cells (2 + slot)) (same.each (2 + slot)) (is.each_home slot within);
-  each_image = λ i within. let p = 2 + head.nodes + i in Has-same (Fixed (journal i)) (old.cells p) (new.cells p) (same.each p) (is.each_image i within);
+  first = Has-same (Fixed (head_page head)) (old.cells 0) (new.cells 0) (same.each 0 (omega arith)) is.first;
+  second = Has-same (Fixed (head_page head)) (old.cells 1) (new.cells 1) (same.each 1 (omega arith)) is.second;
+  each_home = λ slot within. Has-same (Fixed (homes slot)) (old.cells (2 + slot)) (new.cells (2 + slot)) (same.each (2 + slot) (omega arith)) (is.each_home slot within);
+  each_image = λ i within. let p = 2 + head.nodes + i in Has-same (Fixed (journal i)) (old.cells p) (new.cells p) (same.each p (omega arith)) (is.each_image i within);
 }
 
 same_if_hurt : (here : Bool) (cell : Cell) (bytes : List ℕ) → candidates (cond here (hurt_cell cell bytes) cell) ≡ candidates cell
 same_if_hurt true cell bytes = refl
 same_if_hurt false cell bytes = refl
 
--- damage leaves the candidates
-pub HasSameCandidates-damaged : (d : DiskState) (place : ℕ) (page : List ℕ) → HasSameCandidates d (damaged d place page)
-HasSameCandidates-damaged d place page = record { size = refl; each = λ q. same_if_hurt (eqb q place) (d.cells q) page }
+-- damage leaves the candidates, and so does a write to a place past these
+pub HasSameCandidates-damaged : (end : ℕ) (d : DiskState) (place : ℕ) (page : List ℕ) → HasSameCandidates end d (damaged d place page)
+HasSameCandidates-damaged end d place page = record { size = refl; each = λ q low. same_if_hurt (eqb q place) (d.cells q) page }
+
+pub HasSameCandidates-written : (end : ℕ) (d : DiskState) (place : ℕ) (page : List ℕ) → end ≤ place → HasSameCandidates end d (written d place page)
+HasSameCandidates-written end d place page past = record {
+  size = refl;
+  each = λ q low. ap candidates (written-elsewhere d place q page (λ same. omega arith));
+}
+
+-- a sync leaves a store at rest
+pub IsAtRest-synced : (head : Head) (homes journal : ℕ → List ℕ) (d : DiskState) → IsAtRest head homes journal d → IsAtRest head homes journal (synced d)
+IsAtRest-synced head homes journal d is = record {
+  id = is.id;
+  size = is.size;
+  first = Fixed-stays (head_page head) (d.cells 0) is.first;
+  second = Fixed-stays (head_page head) (d.cells 1) is.second;
+  each_home = λ slot within. Fixed-stays (homes slot) (d.cells (2 + slot)) (is.each_home slot within);
+  each_image = λ i within. Fixed-stays (journal i) (d.cells (2 + head.nodes + i)) (is.each_image i within);
+}

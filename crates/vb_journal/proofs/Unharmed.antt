@@ -4,6 +4,7 @@ use Rattle.std.proofs.lemmas.Bool.{cases_eq, cases_lt, lt-ltb, le-ltb}
 use Rattle.std.proofs.lemmas.List.{ext_get_or}
 use Rattle.vb_disk.specs.declared.cell.Cell.{Cell}
 use Rattle.vb_disk.specs.Cells.{blank_cell, written_cell}
+use Rattle.vb_disk.specs.Crashes.{MayCrashTo}
 use Rattle.vb_disk.specs.States.{DiskCall, DiskState, Resize, Sync, Write, after_call, written}
 use Rattle.vb_head.specs.declared.head.Head.{Head}
 use Rattle.vb_journal.specs.declared.commit_stage.Stage.{Stage}
@@ -13,7 +14,7 @@ use Rattle.vb_journal.specs.declared.recover_error.RecoverError.{RecoverError}
 use Rattle.vb_journal.specs.Images.{image_at}
 use Rattle.vb_journal.specs.Outcomes.{IsRefused, Recovers, RecoversWholly, WasHurt}
 use Rattle.vb_journal.specs.Plans.{closed_head, due_call, next_stage}
-use Rattle.vb_journal.specs.Progress.{EachCrashRecovers, EachCrashRecoversWholly, IsUnharmed, OldOrNew, counted_at, new_images, written_at}
+use Rattle.vb_journal.specs.Progress.{EachCrashRecovers, EachCrashRecoversWholly, EachCrashStays, IsUnharmed, OldOrNew, counted_at, new_images, written_at}
 use Rattle.vb_journal.specs.Recoveries.{Recovered}
 use Rattle.vb_journal.specs.Shown.{pages_from}
 use Rattle.vb_journal.proofs.Found.{length-pages_from, pages_from-at}
@@ -72,6 +73,13 @@ pub EachCrashRecoversWholly-unharmed : (head : Head) (epoch : ℕ) (images : Lis
 EachCrashRecoversWholly-unharmed head epoch images homes stage d u each new crash = elim (each new crash) [
   | inl recovers ↦ wholly_at head epoch images homes stage d new u recovers
   | inr refused ↦ absurd (not_refused head images stage d new u refused)
+]
+
+-- a store at rest
+pub RecoversWholly-rest : (head : Head) (homes : ℕ → List ℕ) (d new : DiskState) → IsUnharmed head [] Rested d → EachCrashStays head homes d → MayCrashTo d new → RecoversWholly new head homes
+RecoversWholly-rest head homes d new u each crash = elim (each new crash) [
+  | inl recovers ↦ whole_homes d new head homes u.heads_and_homes recovers
+  | inr refused ↦ absurd (not_refused head [] Rested d new u refused)
 ]
 
 -- what holds of the old or the new images at the next stage holds so at this one

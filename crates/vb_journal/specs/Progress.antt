@@ -111,10 +111,10 @@ new_images images homes slot = image_over images slot (homes slot)
 abbrev pub new_journal : List (List ℕ) → (ℕ → List ℕ) → ℕ → List ℕ
 new_journal images journal i = if nat_lt i (length images) then image_at images i else journal i
 
--- the size and the candidates of each place stand, as where damage came
-pub record HasSameCandidates (old new : DiskState) : Type 0 where
+-- the size and the candidates of each place below this one stand, as where damage came or others were written
+pub record HasSameCandidates (end : ℕ) (old new : DiskState) : Type 0 where
   pub size : new.size ≡ old.size
-  pub each : (place : ℕ) → candidates (new.cells place) ≡ candidates (old.cells place)
+  pub each : (place : ℕ) → place < end → candidates (new.cells place) ≡ candidates (old.cells place)
 
 -- ---- what crashes leave
 
@@ -154,6 +154,11 @@ EachCrashRecovers head epoch images homes stage d =
 abbrev pub EachCrashRecoversWholly : Head → ℕ → List (List ℕ) → (ℕ → List ℕ) → Stage → DiskState → Type 0
 EachCrashRecoversWholly head epoch images homes stage d =
     (new : DiskState) → MayCrashTo d new → OldOrNew head epoch images homes (λ h pages. RecoversWholly new h pages) stage
+
+-- each crash of a store at rest leaves one that recovers to its head and its images, or is refused where a head was
+-- hurt before
+abbrev pub EachCrashStays : Head → (ℕ → List ℕ) → DiskState → Type 0
+EachCrashStays head homes d = (new : DiskState) → MayCrashTo d new → Recovers d new head homes ⊎ IsRefused head.nodes 0 d new
 
 -- no head and no home is hurt, and no place of the journal that was written
 pub record IsUnharmed (head : Head) (images : List (List ℕ)) (stage : Stage) (d : DiskState) : Type 0 where
