@@ -25,6 +25,12 @@ pub fn each_crash_recovers()
         → EachCrashRecovers head epoch images homes stage d }
 {}
 
+/// So does each crash of a store at rest, to the head and the images that it has.
+pub fn each_crash_at_rest_recovers()
+    ensures { (head : Head) (homes journal : ℕ → List ℕ) (d : DiskState) → IsInRange head → head.state ≡ Closed → IsDiskState d
+        → IsAtRest head homes journal d → EachCrashStays head homes d }
+{}
+
 /// Where the disk is unharmed, each crash of it recovers wholly: nothing is missed and nothing refused.
 pub fn an_unharmed_disk_recovers_wholly()
     ensures commit { (head : Head) (epoch : ℕ) (images : List (List ℕ)) (homes : ℕ → List ℕ) (stage : Stage) (d : DiskState)
@@ -40,12 +46,6 @@ pub fn a_rested_commit_is_at_rest()
     ensures { (head : Head) (epoch : ℕ) (images : List (List ℕ)) (homes journal : ℕ → List ℕ) (d : DiskState)
         → CanFinish head epoch images → IsCommitting head epoch images homes journal Rested d
         → IsAtRest (closed_head head epoch) (new_images images homes) (new_journal images journal) d }
-{}
-
-/// So does each crash of a store at rest, to the head and the images that it has.
-pub fn each_crash_at_rest_recovers()
-    ensures { (head : Head) (homes journal : ℕ → List ℕ) (d : DiskState) → IsInRange head → head.state ≡ Closed → IsDiskState d
-        → IsAtRest head homes journal d → EachCrashStays head homes d }
 {}
 
 /// What is known of a store is known of the candidates of its heads, homes and journal. So damage at any moment leaves
