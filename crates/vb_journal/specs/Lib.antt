@@ -1,6 +1,15 @@
 pub mod Calls
 pub mod Commits
+pub mod Data
 pub mod Images
+pub mod Interruptions
+pub mod Journals
+pub mod Marks
+pub mod Outcomes
 pub mod Plans
 pub mod Progress
+pub mod Recoveries
+pub mod Recovering
+pub mod Recovers
+pub mod Replays
 pub mod Shown
