@@ -204,10 +204,11 @@ pub record HasRead (begun : DiskState) (journal : JournalRead) (d : DiskState) :
   pub images : journal.images ≡ pages_from (reads_of begun) (journal_place journal.head) (length journal.images)
   pub accepted : images_refusal journal.head.nodes (journal_place journal.head) [] journal.images ≡ None
 
--- what stood at the homes and in the journal when the recovery began
+-- what stood at the homes when the recovery began
 abbrev pub homes_of : DiskState → ℕ → List ℕ
 homes_of begun = λ slot. newest_of (begun.cells (2 + slot))
 
+-- what stood in the journal then
 abbrev pub images_in : DiskState → Head → ℕ → List ℕ
 images_in begun head = λ i. newest_of (begun.cells (journal_place head + i))
 

@@ -6,7 +6,7 @@ ghost use Rattle.vb_nodes.specs.Holdings.{index_from, pages_of_nodes, IsIndexed}
 
 use crate::build::build;
 use crate::checks::check_nodes;
-use crate::{Index, Limits, Node, Nodes, TableError};
+use crate::{Index, Limits, Node, TableError};
 use std::alloc::Global;
 use vb_tree::pages_of;
 
@@ -20,17 +20,7 @@ fn pages_of_nodes(nodes: &[Node]) -> u64
 
 /// The index of nodes by slot, with blank references. It refuses nodes that aren't a tree, by the first
 /// slot that is wrong, and then files that take more pages than the limits allow.
-pub fn index_of(alloc: Global, limits: Limits, nodes: Nodes) -> Result<Index, TableError>
-    requires limits { AreInLimits limits }
-    requires as_many { length nodes ≡ limits.nodes }
-    requires by_slot { AreBySlot nodes }
-    ensures { IsIndexed (index_from limits nodes) result }
-{
-    index_over(alloc, limits, nodes.slice())
-}
-
-/// The same, of nodes that the caller keeps.
-pub fn index_over(alloc: Global, limits: Limits, nodes: &[Node]) -> Result<Index, TableError>
+pub fn index_of(alloc: Global, limits: Limits, nodes: &[Node]) -> Result<Index, TableError>
     requires limits { AreInLimits limits }
     requires as_many { length nodes.now ≡ limits.nodes }
     requires by_slot { AreBySlot nodes.now }

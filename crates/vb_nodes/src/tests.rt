@@ -85,34 +85,47 @@ fn forged_nodes(alloc: Global, rows: &[Row]) -> Result<Nodes, Fail>
     Ok(nodes)
 }
 
+// Why the nodes of these rows make no index.
+fn refusal_of(alloc: Global, rows: &[Row]) -> Result<Option<TableError>, Fail> {
+    let nodes = forged_nodes(alloc, rows)?;
+    Ok(index_of(alloc, LIMITS, nodes.slice()).err())
+}
+
 #[test]
-fn forged_nodes_are_refused_by_slot(rt: HostRuntime) -> Result<(), Fail> {
-    let root = folder(0, b"");
+fn a_path_of_too_many_bytes_is_refused(rt: HostRuntime) -> Result<(), Fail> {
     let long: &'static [u8] = &[b'a'; 255];
     let deep = [
-        root,
+        folder(0, b""),
         folder(0, long),
         folder(1, long),
         folder(2, long),
         folder(3, long),
         file(4, b"b", 0),
     ];
-    let cases: [(&[Row], Option<(u32, Why)>); 10] = [
-        (&[file(0, b"", 0)], Some((0, Why::Root))),
-        (&[FREE], Some((0, Why::Root))),
-        (&[folder(1, b""), folder(0, b"a")], Some((0, Why::Root))),
-        (
-            &[root, folder(2, b"a"), folder(1, b"b")],
-            Some((1, Why::Cycle)),
-        ),
+    assert_eq!(rt; refusal_of(rt.alloc(), &deep[..5])?, None);
+    assert_eq!(rt;
+        refusal_of(rt.alloc(), &deep)?,
+        Some(TableError::Wrong {
+            slot: 5,
+            why: Why::Deep
+        })
+    );
+    Ok(())
+}
+
+#[test]
+fn forged_nodes_are_refused_by_slot(rt: HostRuntime) -> Result<(), Fail> {
+    let root = folder(0, b"");
+    let cases: [(&[Row], (u32, Why)); 8] = [
+        (&[file(0, b"", 0)], (0, Why::Root)),
+        (&[FREE], (0, Why::Root)),
+        (&[folder(1, b""), folder(0, b"a")], (0, Why::Root)),
+        (&[root, folder(2, b"a"), folder(1, b"b")], (1, Why::Cycle)),
         (
             &[root, folder(0, b"a"), folder(0, b"a")],
-            Some((2, Why::SameName)),
+            (2, Why::SameName),
         ),
-        (
-            &[root, file(0, b"f", 0), folder(1, b"a")],
-            Some((2, Why::Parent)),
-        ),
+        (&[root, file(0, b"f", 0), folder(1, b"a")], (2, Why::Parent)),
         (
             &[
                 root,
@@ -121,17 +134,13 @@ fn forged_nodes_are_refused_by_slot(rt: HostRuntime) -> Result<(), Fail> {
                 folder(4, b"b"),
                 file(0, b"f", 0),
             ],
-            Some((3, Why::Parent)),
+            (3, Why::Parent),
         ),
-        (&[root, folder(7, b"a")], Some((1, Why::Parent))),
-        (&deep[..5], None),
-        (&deep, Some((5, Why::Deep))),
+        (&[root, folder(7, b"a")], (1, Why::Parent)),
     ];
-    for (rows, due) in cases {
-        let nodes = forged_nodes(rt.alloc(), rows)?;
-        let error = index_of(rt.alloc(), LIMITS, nodes).err();
-        let expected = due.map(|(slot, why)| TableError::Wrong { slot, why });
-        assert_eq!(rt; error, expected);
+    for (rows, (slot, why)) in cases {
+        let expected = TableError::Wrong { slot, why };
+        assert_eq!(rt; refusal_of(rt.alloc(), rows)?, Some(expected));
     }
     Ok(())
 }
@@ -140,7 +149,8 @@ fn forged_nodes_are_refused_by_slot(rt: HostRuntime) -> Result<(), Fail> {
 fn a_tree_of_nodes_is_walked(rt: HostRuntime) -> Result<(), Fail> {
     let alloc = rt.alloc();
     let rows = [folder(0, b""), file(2, b"b", 5000), folder(0, b"a")];
-    let index = index_of(alloc, LIMITS, forged_nodes(alloc, &rows)?)
+    let nodes = forged_nodes(alloc, &rows)?;
+    let index = index_of(alloc, LIMITS, nodes.slice())
         .ok()
         .ok_or("an index")?;
     assert_eq!(rt; index.walk(&Path::parse(alloc, b"/a")?), Ok(2));
@@ -148,8 +158,7 @@ fn a_tree_of_nodes_is_walked(rt: HostRuntime) -> Result<(), Fail> {
     assert_eq!(rt; index.pages(), 3);
     assert_eq!(rt; index.refs(1).map(|refs| refs.len()), Some(2));
     let rows = [folder(0, b""), file(0, b"b", 8193)];
-    let error = index_of(alloc, LIMITS, forged_nodes(alloc, &rows)?).err();
-    assert_eq!(rt; error, Some(TableError::TooManyPages));
+    assert_eq!(rt; refusal_of(alloc, &rows)?, Some(TableError::TooManyPages));
     Ok(())
 }
 
