@@ -11,6 +11,7 @@ pub mod ImageWrites
 pub mod Interrupted
 pub mod JournalReads
 pub mod Keeping
+pub mod ListedCalls
 pub mod Marked
 pub mod Mended
 pub mod Overlays

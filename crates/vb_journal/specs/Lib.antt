@@ -11,5 +11,6 @@ pub mod Progress
 pub mod Recoveries
 pub mod Recovering
 pub mod Recovers
+pub mod RecoveryCalls
 pub mod Replays
 pub mod Shown

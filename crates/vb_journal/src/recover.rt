@@ -30,6 +30,8 @@ pub struct Recover {
 
 impl Recover {
     ghost use Rattle.vb_journal.specs.Recovering.{blocks_of, due_of, IsRecovering, HasEnded, MakesCall, RecoversOn, SeenStays, StandsAfter};
+    ghost use Rattle.vb_journal.specs.Outcomes.{reads_of};
+    ghost use Rattle.vb_journal.specs.RecoveryCalls.{recovery_calls, recovery_calls_left, Leaves};
     ghost use Rattle.vb_journal.specs.Recovers.{lent_image, ready_head, recovery_stage, AnswersRecovery, IsAheadOf, Lends};
 
     /// A recovery that begins.
@@ -37,6 +39,7 @@ impl Recover {
         ensures blocks { blocks_of (recovery_stage result) ≡ 0 }
         ensures image { lent_image result ≡ None }
         ensures known { (begun : DiskState) → IsRecovering (recovery_stage result) begun begun }
+        ensures calls { (begun : DiskState) → recovery_calls_left (recovery_stage result) begun ≡ recovery_calls begun.size (reads_of begun) }
     {
         Recover {
             alloc,
@@ -63,6 +66,10 @@ impl Recover {
         // Ready comes with what reads gave when the recovery began, and a refusal where they gave that one.
         ensures answer { (begun d : DiskState) → D.told disk.old ≡ Some d → IsRecovering (recovery_stage self.old) begun d
             → AnswersRecovery begun (recovery_stage self.new) result }
+
+        // It made the first of the calls that are left, by what reads gave when the recovery began.
+        ensures list { (begun d : DiskState) → D.told disk.old ≡ Some d → IsRecovering (recovery_stage self.old) begun d
+            → Leaves (due_of (recovery_stage self.old)) (recovery_calls_left (recovery_stage self.old) begun) (recovery_calls_left (recovery_stage self.new) begun) result }
 
         // From the first sync on each crash within the step leaves what recovers to the same.
         ensures crash { RecoversOn (recovery_stage self.old) (recovery_stage self.new) (D.told disk.old) (D.told disk.new) }

@@ -5,12 +5,13 @@ ghost use Rattle.vb_disk.specs.States.{DiskState, Write, read_at};
 ghost use Rattle.vb_head.specs.Heads.{head_page, head_read, IsHead};
 ghost use Rattle.vb_head.specs.declared.head.Head.{Head};
 ghost use Rattle.vb_journal.specs.Calls.{Makes};
-ghost use Rattle.vb_journal.specs.Commits.{epoch_of, head_of, images_of, stage_of};
+ghost use Rattle.vb_journal.specs.Commits.{calls_left, epoch_of, head_of, images_of, stage_of};
 ghost use Rattle.vb_journal.specs.Images.{AreImages};
 ghost use Rattle.vb_journal.specs.Plans.{closed_head};
 ghost use Rattle.vb_journal.specs.Recoveries.{image_refusal, is_rebuilding, is_retried, journal_of, journal_place, journal_refusal};
 ghost use Rattle.vb_journal.specs.Outcomes.{reads_of};
 ghost use Rattle.vb_journal.specs.Recovering.{blocks_of, due_of, images_by, is_refused, HasBothHeads, HasRead, HasReadFirst, IsRecovering, IsReplaying, MakesCall, RecoversOn, SeenStays, StandsAfter, TakesImage, HasEnded};
+ghost use Rattle.vb_journal.specs.RecoveryCalls.{calls_by_choice, changes, journal_calls_of, recovery_calls_left, replay_calls, Leaves};
 ghost use Rattle.vb_journal.specs.Replays.{is_late};
 
 use crate::choice::{LEAST_SIZE, are_one_head, choose_head, other_place};
@@ -35,6 +36,8 @@ pub(crate) fn step_from<D: Disk>(stage: RecoverStage, alloc: Global, disk: &mut 
     ensures makes { MakesCall (due_of stage) (D.told disk.old) (D.told disk.new) result.1 }
     ensures error { IfErr result.1 (StandsAfter stage result.0) }
     ensures known { RecoversOn stage result.0 (D.told disk.old) (D.told disk.new) }
+    ensures list { (begun d : DiskState) → D.told disk.old ≡ Some d → IsRecovering stage begun d
+        → Leaves (due_of stage) (recovery_calls_left stage begun) (recovery_calls_left result.0 begun) result.1 }
     ensures seen { SeenStays (due_of stage) (D.seen disk.old) (D.seen disk.new) }
     ensures image { OnOk result.1 (TakesImage stage result.0 (D.told disk.old)) }
     ensures refused { (error : RecoverError) → HasEnded stage error → result.1 ≡ Err error }
@@ -70,6 +73,8 @@ fn ask<D: Disk>(disk: &mut D) -> Stepped
     ensures makes { MakesCall (due_of RecoverStage.Ask) (D.told disk.old) (D.told disk.new) result.1 }
     ensures error { IfErr result.1 (StandsAfter RecoverStage.Ask result.0) }
     ensures known { RecoversOn RecoverStage.Ask result.0 (D.told disk.old) (D.told disk.new) }
+    ensures list { (begun d : DiskState) → D.told disk.old ≡ Some d → IsRecovering RecoverStage.Ask begun d
+        → Leaves (due_of RecoverStage.Ask) (recovery_calls_left RecoverStage.Ask begun) (recovery_calls_left result.0 begun) result.1 }
     ensures blocks { blocks_of result.0 ≤ D.seen disk.new }
     ensures going { OnOk result.1 (is_refused result.0 ≡ false) }
     ensures cause { HasCause RecoverError.DiskFault (D.faults disk.old) (D.faults disk.new) result.1 }
@@ -89,6 +94,8 @@ fn settle<D: Disk>(disk: &mut D, size: StoreSize) -> Stepped
     ensures makes { MakesCall (due_of (RecoverStage.Settle size)) (D.told disk.old) (D.told disk.new) result.1 }
     ensures error { IfErr result.1 (StandsAfter (RecoverStage.Settle size) result.0) }
     ensures known { RecoversOn (RecoverStage.Settle size) result.0 (D.told disk.old) (D.told disk.new) }
+    ensures list { (begun d : DiskState) → D.told disk.old ≡ Some d → IsRecovering (RecoverStage.Settle size) begun d
+        → Leaves (due_of (RecoverStage.Settle size)) (recovery_calls_left (RecoverStage.Settle size) begun) (recovery_calls_left result.0 begun) result.1 }
     ensures seen { D.seen disk.new ≡ D.seen disk.old }
     ensures blocks { blocks_of result.0 ≤ D.seen disk.new }
     ensures going { OnOk result.1 (is_refused result.0 ≡ false) }
@@ -119,6 +126,8 @@ fn read_first<D: Disk>(alloc: Global, disk: &mut D, size: StoreSize) -> Stepped
     ensures makes { MakesCall (due_of (RecoverStage.ReadFirst size)) (D.told disk.old) (D.told disk.new) result.1 }
     ensures error { IfErr result.1 (StandsAfter (RecoverStage.ReadFirst size) result.0) }
     ensures known { RecoversOn (RecoverStage.ReadFirst size) result.0 (D.told disk.old) (D.told disk.new) }
+    ensures list { (begun d : DiskState) → D.told disk.old ≡ Some d → IsRecovering (RecoverStage.ReadFirst size) begun d
+        → Leaves (due_of (RecoverStage.ReadFirst size)) (recovery_calls_left (RecoverStage.ReadFirst size) begun) (recovery_calls_left result.0 begun) result.1 }
     ensures seen { D.seen disk.new ≡ D.seen disk.old }
     ensures blocks { blocks_of result.0 ≤ D.seen disk.new }
     ensures going { OnOk result.1 (is_refused result.0 ≡ false) }
@@ -142,6 +151,8 @@ fn read_second<D: Disk>(alloc: Global, disk: &mut D, first: FirstRead) -> Steppe
     ensures makes { MakesCall (due_of (RecoverStage.ReadSecond first)) (D.told disk.old) (D.told disk.new) result.1 }
     ensures error { IfErr result.1 (StandsAfter (RecoverStage.ReadSecond first) result.0) }
     ensures known { RecoversOn (RecoverStage.ReadSecond first) result.0 (D.told disk.old) (D.told disk.new) }
+    ensures list { (begun d : DiskState) → D.told disk.old ≡ Some d → IsRecovering (RecoverStage.ReadSecond first) begun d
+        → Leaves (due_of (RecoverStage.ReadSecond first)) (recovery_calls_left (RecoverStage.ReadSecond first) begun) (recovery_calls_left result.0 begun) result.1 }
     ensures seen { D.seen disk.new ≡ D.seen disk.old }
     ensures blocks { blocks_of result.0 ≤ D.seen disk.new }
     ensures going { OnOk result.1 (is_refused result.0 ≡ false) }
@@ -162,9 +173,12 @@ fn decide(alloc: Global, first: FirstRead, second: &HeadRead) -> Stepped
     requires differ { (kept found : List ℕ) → second.now ≡ HeadRead.Unsealed kept found → kept ≢ found }
     ensures reached { (begun d : DiskState) → HasReadFirst begun first d → second.now ≡ head_read (read_at begun 1)
         → ((h : Head) → second.now ≡ HeadRead.Good h → read_at begun 1 ≡ head_page h) → IsRecovering result.0 begun d }
+    ensures calls { (begun d : DiskState) → HasReadFirst begun first d → second.now ≡ head_read (read_at begun 1)
+        → calls_by_choice begun.size (reads_of begun) ≡ recovery_calls_left result.0 begun }
     ensures blocks { blocks_of result.0 ≤ first.size.places }
     ensures going { OnOk result.1 (is_refused result.0 ≡ false) }
     ensures error { IfErr result.1 (StandsAfter (RecoverStage.ReadSecond first) result.0) }
+    ensures ends { IfErr result.1 (λ error. is_retried error ≡ false) }
     ensures no_fault { result.1 ≡ Err RecoverError.DiskFault → ⊥ }
 {
     match choose_head(first.size.places, &first.read, second) {
@@ -200,6 +214,8 @@ fn mend<D: Disk>(alloc: Global, disk: &mut D, mending: Mending) -> Stepped
     ensures makes { MakesCall (due_of (RecoverStage.Mend mending)) (D.told disk.old) (D.told disk.new) result.1 }
     ensures error { IfErr result.1 (StandsAfter (RecoverStage.Mend mending) result.0) }
     ensures known { RecoversOn (RecoverStage.Mend mending) result.0 (D.told disk.old) (D.told disk.new) }
+    ensures list { (begun d : DiskState) → D.told disk.old ≡ Some d → IsRecovering (RecoverStage.Mend mending) begun d
+        → Leaves (due_of (RecoverStage.Mend mending)) (recovery_calls_left (RecoverStage.Mend mending) begun) (recovery_calls_left result.0 begun) result.1 }
     ensures seen { D.seen disk.new ≡ D.seen disk.old }
     ensures blocks { blocks_of result.0 ≤ D.seen disk.new }
     ensures going { OnOk result.1 (is_refused result.0 ≡ false) }
@@ -217,6 +233,8 @@ fn settle_mend<D: Disk>(alloc: Global, disk: &mut D, mending: Mending) -> Steppe
     ensures makes { MakesCall (due_of (RecoverStage.SettleMend mending)) (D.told disk.old) (D.told disk.new) result.1 }
     ensures error { IfErr result.1 (StandsAfter (RecoverStage.SettleMend mending) result.0) }
     ensures known { RecoversOn (RecoverStage.SettleMend mending) result.0 (D.told disk.old) (D.told disk.new) }
+    ensures list { (begun d : DiskState) → D.told disk.old ≡ Some d → IsRecovering (RecoverStage.SettleMend mending) begun d
+        → Leaves (due_of (RecoverStage.SettleMend mending)) (recovery_calls_left (RecoverStage.SettleMend mending) begun) (recovery_calls_left result.0 begun) result.1 }
     ensures seen { D.seen disk.new ≡ D.seen disk.old }
     ensures blocks { blocks_of result.0 ≤ D.seen disk.new }
     ensures going { OnOk result.1 (is_refused result.0 ≡ false) }
@@ -236,6 +254,7 @@ fn after_heads(alloc: Global, head: Head) -> RecoverStage
     requires is { IsHead head }
     requires whole { is_rebuilding head.state ≡ false }
     ensures reached { (begun d : DiskState) → HasBothHeads begun head d → IsRecovering result begun d }
+    ensures calls { (begun : DiskState) → journal_calls_of (reads_of begun) head ≡ recovery_calls_left result begun }
     ensures blocks { blocks_of result ≤ head.blocks }
     ensures going { is_refused result ≡ false }
 {
@@ -250,6 +269,7 @@ fn after_opening(alloc: Global, head: Head, count: u32) -> RecoverStage
     requires is { IsHead head }
     requires opened { head.state ≡ State.Opened count }
     ensures reached { (begun d : DiskState) → HasBothHeads begun head d → IsRecovering result begun d }
+    ensures calls { (begun : DiskState) → journal_calls_of (reads_of begun) head ≡ recovery_calls_left result begun }
     ensures blocks { blocks_of result ≤ head.blocks }
     ensures going { is_refused result ≡ false }
 {
@@ -267,6 +287,7 @@ fn replay_of(alloc: Global, head: Head, images: Images) -> Replay
     ensures reached { (begun d : DiskState) → HasBothHeads begun head d → images ≡ journal_of (reads_of begun) head
         → journal_refusal (reads_of begun) head ≡ None → IsRecovering (RecoverStage.Replay result) begun d }
     ensures images { images_of result.commit ≡ images }
+    ensures calls { changes (calls_left result.commit) ≡ replay_calls head images }
     ensures blocks { blocks_of (RecoverStage.Replay result) ≡ head.blocks }
 {
     let before = Head {
@@ -291,6 +312,8 @@ fn read_image<D: Disk>(alloc: Global, disk: &mut D, journal: Journal) -> Stepped
     ensures makes { MakesCall (due_of (RecoverStage.ReadImage journal)) (D.told disk.old) (D.told disk.new) result.1 }
     ensures error { IfErr result.1 (StandsAfter (RecoverStage.ReadImage journal) result.0) }
     ensures known { RecoversOn (RecoverStage.ReadImage journal) result.0 (D.told disk.old) (D.told disk.new) }
+    ensures list { (begun d : DiskState) → D.told disk.old ≡ Some d → IsRecovering (RecoverStage.ReadImage journal) begun d
+        → Leaves (due_of (RecoverStage.ReadImage journal)) (recovery_calls_left (RecoverStage.ReadImage journal) begun) (recovery_calls_left result.0 begun) result.1 }
     ensures seen { D.seen disk.new ≡ D.seen disk.old }
     ensures blocks { blocks_of result.0 ≤ D.seen disk.new }
     ensures going { OnOk result.1 (is_refused result.0 ≡ false) }
@@ -310,6 +333,9 @@ fn read_image<D: Disk>(alloc: Global, disk: &mut D, journal: Journal) -> Stepped
 fn take_image(alloc: Global, journal: Journal, image: Page) -> Stepped
     ensures reached { (begun d : DiskState) → HasRead begun journal d
         → image ≡ read_at begun (journal_place journal.head + length journal.images) → IsRecovering result.0 begun d }
+    ensures list { (begun d : DiskState) → HasRead begun journal d
+        → image ≡ read_at begun (journal_place journal.head + length journal.images)
+        → Leaves (due_of (RecoverStage.ReadImage journal)) (recovery_calls_left (RecoverStage.ReadImage journal) begun) (recovery_calls_left result.0 begun) result.1 }
     ensures blocks { blocks_of result.0 ≤ journal.head.blocks }
     ensures going { OnOk result.1 (is_refused result.0 ≡ false) }
     ensures image { OnOk result.1 (images_by result.0 ≡ journal.images ++ image ∷ []) }
@@ -327,6 +353,9 @@ fn add_image(alloc: Global, journal: Journal, image: Page) -> Stepped
     requires { image_refusal journal.head.nodes (journal_place journal.head + length journal.images) journal.images image ≡ None }
     ensures reached { (begun d : DiskState) → HasRead begun journal d
         → image ≡ read_at begun (journal_place journal.head + length journal.images) → IsRecovering result.0 begun d }
+    ensures list { (begun d : DiskState) → HasRead begun journal d
+        → image ≡ read_at begun (journal_place journal.head + length journal.images)
+        → Leaves (due_of (RecoverStage.ReadImage journal)) (recovery_calls_left (RecoverStage.ReadImage journal) begun) (recovery_calls_left result.0 begun) result.1 }
     ensures blocks { blocks_of result.0 ≤ journal.head.blocks }
     ensures going { OnOk result.1 (is_refused result.0 ≡ false) }
     ensures image { OnOk result.1 (images_by result.0 ≡ journal.images ++ image ∷ []) }
@@ -349,6 +378,8 @@ fn go_on<D: Disk>(disk: &mut D, replay: Replay) -> Stepped
     ensures makes { MakesCall (due_of (RecoverStage.Replay replay)) (D.told disk.old) (D.told disk.new) result.1 }
     ensures error { IfErr result.1 (StandsAfter (RecoverStage.Replay replay) result.0) }
     ensures known { RecoversOn (RecoverStage.Replay replay) result.0 (D.told disk.old) (D.told disk.new) }
+    ensures list { (begun d : DiskState) → D.told disk.old ≡ Some d → IsRecovering (RecoverStage.Replay replay) begun d
+        → Leaves (due_of (RecoverStage.Replay replay)) (recovery_calls_left (RecoverStage.Replay replay) begun) (recovery_calls_left result.0 begun) result.1 }
     ensures seen { D.seen disk.new ≡ D.seen disk.old }
     ensures blocks { blocks_of result.0 ≤ D.seen disk.new }
     ensures going { OnOk result.1 (is_refused result.0 ≡ false) }
@@ -370,6 +401,7 @@ fn after_step(commit: Commit, head: Head, step: CommitStep) -> Stepped
     requires rested { step ≡ CommitStep.Rested → stage_of commit ≡ Stage.Rested }
     requires late { step ≢ CommitStep.Rested → is_late (stage_of commit) ≡ true }
     ensures done { result.1 ≡ Ok tt }
+    ensures calls { (begun : DiskState) → recovery_calls_left result.0 begun ≡ changes (calls_left commit) }
     ensures reached { (begun d : DiskState)
         → IsReplaying begun (head_of commit) (epoch_of commit) (images_of commit) (stage_of commit) d → IsRecovering result.0 begun d }
     ensures blocks { blocks_of result.0 ≤ (head_of commit).blocks }

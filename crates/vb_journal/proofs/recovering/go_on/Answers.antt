@@ -9,6 +9,8 @@ use Rattle.vb_journal.proofs.AfterRecoveries.{EachRecovers-known, replay-recover
 use Rattle.vb_journal.proofs.FirstCalls.{done, gone}
 use Rattle.vb_journal.proofs.Replays.{late-or-rested, makes-due, replaying-fails, replaying-next, replaying-same}
 use Rattle.vb_journal.proofs.StepsOfRecoveries.{changes, moves}
+use Rattle.vb_journal.proofs.ListedCalls.{first-made}
+use Rattle.vb_journal.specs.RecoveryCalls.{recovery_calls_left}
 use Rattle.vb_journal.proofs.recovering.go_on.Goals as goal
 
 pub returns-in-Ok-clause-known : goal.returns-in-Ok-clause-known
@@ -36,3 +38,7 @@ returns-in-Err-clause-known g c begun d told is =
     moves begun d failed.next (due_call old.head old.epoch old.images old.stage) (Replay c.args.replay) _ (g.D.Disk.told c.step.new.disk) failed.told_is failed.moved known
     (EachRecovers-known (Replay c.args.replay) begun d is)
     (λ crashed crash. replay-recovers begun old.head old.epoch old.images old.stage failed.next crashed old.can.finish.images_are closed_is (inl c.args.replay.late) failed.known crash)
+
+pub returns-in-Ok-clause-list : goal.returns-in-Ok-clause-list
+returns-in-Ok-clause-list g c begun d told is =
+    first-made CommitStep (Unit {0}) (calls_left c.args.replay.commit) (calls_left c.step.new.self) (recovery_calls_left c.after_step.result.0 begun) (g.D.Disk.told c.args.disk.now) (g.D.Disk.told c.step.new.disk) c.in-Ok.step c.after_step.result.1 tt c.in-Ok.ensures.calls (c.after_step.ensures.calls begun) c.after_step.ensures.done

@@ -1,0 +1,99 @@
+-- The calls of a recovery, in their order, by the size of the disk and what reads give.
+use Rattle.std.specs.Prelude.{◌≡◌, ℕ, ◌+◌, ◌-◌, nat_lt, if◌then◌else◌, List, [], ◌∷◌, ◌++◌, length, Option, Some, None, Result, Ok, Err}
+use Rattle.vb_disk.specs.States.{DiskState, DiskCall, Write, Sync}
+use Rattle.vb_head.specs.declared.head.Head.{Head}
+use Rattle.vb_head.specs.declared.head.HeadRead.{HeadRead}
+use Rattle.vb_head.specs.declared.head.State.{State}
+use Rattle.vb_head.specs.declared.head.State.TheVariants.{Closed, Opened, Rebuilding as IsBeingMade}
+use Rattle.vb_head.specs.Heads.{head_page, head_read}
+use Rattle.vb_journal.specs.declared.commit_stage.Turn.TheVariants.{First}
+use Rattle.vb_journal.specs.declared.recover_error.RecoverError.{RecoverError}
+use Rattle.vb_journal.specs.declared.recover_error.RecoverError.TheVariants.{NotAStore, Damaged, Unfit, Rebuilding, DiskFault, Memory}
+use Rattle.vb_journal.specs.declared.recover_stage.RecoverStage.{RecoverStage}
+use Rattle.vb_journal.specs.declared.recover_stage.RecoverStage.TheVariants.{Ask, Settle, ReadFirst, ReadSecond, Mend, SettleMend, ReadImage, Replay, Ready, Refused}
+use Rattle.vb_journal.specs.Calls.{turn_calls}
+use Rattle.vb_journal.specs.Commits.{calls_left}
+use Rattle.vb_journal.specs.Outcomes.{reads_of}
+use Rattle.vb_journal.specs.Plans.{home_calls}
+use Rattle.vb_journal.specs.Recoveries.{are_one_head, choice_of, greater_place, image_refusal, journal_of, journal_place, least_size, settled_head}
+use Rattle.vb_journal.specs.Recovering.{AskSize, Change, ReadPlace, RecoverCall}
+use Rattle.vb_journal.specs.Shown.{good_of, pages_from}
+
+-- calls that change the disk
+abbrev pub changes : List DiskCall → List RecoverCall
+changes [] = []
+changes (call ∷ calls) = Change call ∷ changes calls
+
+-- these calls, unless something is refused
+abbrev pub unless_refused : Option RecoverError → List RecoverCall → List RecoverCall
+unless_refused None calls = calls
+unless_refused (Some refusal) calls = []
+
+-- a read of each of these images, the first of which stands at this place after some others, up to one that is
+-- refused, and then these calls
+abbrev pub image_reads : ℕ → ℕ → List (List ℕ) → List (List ℕ) → List RecoverCall → List RecoverCall
+image_reads nodes place before [] calls = calls
+image_reads nodes place before (image ∷ images) calls =
+    ReadPlace place ∷ unless_refused (image_refusal nodes place before image) (image_reads nodes (place + 1) (before ++ image ∷ []) images calls)
+
+-- the images at their homes, a sync, and the head that counts them out, at each place with a sync
+abbrev pub replay_calls : Head → List (List ℕ) → List RecoverCall
+replay_calls head images = changes (home_calls images ++ (Sync ∷ turn_calls (head_page (settled_head head)) First))
+
+-- the calls for the journal, where this head counts it in
+abbrev pub journal_calls_by : (ℕ → List ℕ) → Head → State → List RecoverCall
+journal_calls_by reads head Closed = []
+journal_calls_by reads head (Opened count) = image_reads head.nodes (journal_place head) [] (journal_of reads head) (replay_calls head (journal_of reads head))
+journal_calls_by reads head IsBeingMade = []
+
+abbrev pub journal_calls_of : (ℕ → List ℕ) → Head → List RecoverCall
+journal_calls_of reads head = journal_calls_by reads head head.state
+
+-- the head that counts over the other one and a sync, unless both are one, and then these calls
+abbrev pub mending_calls : HeadRead → HeadRead → Head → List RecoverCall → List RecoverCall
+mending_calls a b head calls =
+    if are_one_head a b then calls else Change (Write (1 - greater_place (good_of a) (good_of b)) (head_page head)) ∷ Change Sync ∷ calls
+
+-- the calls after both heads were read
+abbrev pub calls_after_heads : HeadRead → HeadRead → (ℕ → List ℕ) → Result Head RecoverError → List RecoverCall
+calls_after_heads a b reads (Err refusal) = []
+calls_after_heads a b reads (Ok head) = mending_calls a b head (journal_calls_of reads head)
+
+abbrev pub calls_by_choice : ℕ → (ℕ → List ℕ) → List RecoverCall
+calls_by_choice size reads = calls_after_heads (head_read (reads 0)) (head_read (reads 1)) reads (choice_of size reads)
+
+-- all calls: the size, and where it is enough a sync, both heads, and what they ask for
+abbrev pub recovery_calls : ℕ → (ℕ → List ℕ) → List RecoverCall
+recovery_calls size reads = AskSize ∷ (if nat_lt size least_size then [] else Change Sync ∷ ReadPlace 0 ∷ ReadPlace 1 ∷ calls_by_choice size reads)
+
+-- the calls that are left at a stage, where the recovery began on this disk
+abbrev pub recovery_calls_left : RecoverStage → DiskState → List RecoverCall
+recovery_calls_left Ask begun = recovery_calls begun.size (reads_of begun)
+recovery_calls_left (Settle size) begun = Change Sync ∷ ReadPlace 0 ∷ ReadPlace 1 ∷ calls_by_choice begun.size (reads_of begun)
+recovery_calls_left (ReadFirst size) begun = ReadPlace 0 ∷ ReadPlace 1 ∷ calls_by_choice begun.size (reads_of begun)
+recovery_calls_left (ReadSecond first) begun = ReadPlace 1 ∷ calls_by_choice begun.size (reads_of begun)
+recovery_calls_left (Mend mending) begun = Change (Write mending.place (head_page mending.head)) ∷ Change Sync ∷ journal_calls_of (reads_of begun) mending.head
+recovery_calls_left (SettleMend mending) begun = Change Sync ∷ journal_calls_of (reads_of begun) mending.head
+recovery_calls_left (ReadImage journal) begun =
+    image_reads journal.head.nodes (journal_place journal.head + length journal.images) journal.images
+    (pages_from (reads_of begun) (journal_place journal.head + length journal.images) (journal.count - length journal.images))
+    (replay_calls journal.head (journal_of (reads_of begun) journal.head))
+recovery_calls_left (Replay replay) begun = changes (calls_left replay.commit)
+recovery_calls_left (Ready head) begun = []
+recovery_calls_left (Refused refusal) begun = []
+
+-- this call was the first, and the others are left
+abbrev pub IsFirst : Option RecoverCall → List RecoverCall → List RecoverCall → Type 0
+IsFirst None old new = (old ≡ []) × (new ≡ [])
+IsFirst (Some call) old new = old ≡ call ∷ new
+
+-- the call that was due was the first of those that were left, and the others are left, none after a refusal. After a
+-- fault and for want of memory all are left.
+abbrev pub Leaves : {T : Type 0} → Option RecoverCall → List RecoverCall → List RecoverCall → Result T RecoverError → Type 0
+Leaves due old new (Ok x) = IsFirst due old new
+Leaves due old new (Err (NotAStore place)) = IsFirst due old new
+Leaves due old new (Err (Damaged place kept found)) = IsFirst due old new
+Leaves due old new (Err (Unfit place why)) = IsFirst due old new
+Leaves due old new (Err Rebuilding) = IsFirst due old new
+Leaves due old new (Err DiskFault) = new ≡ old
+Leaves due old new (Err Memory) = new ≡ old
