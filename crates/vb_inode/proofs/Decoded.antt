@@ -32,7 +32,7 @@ made slot kind parent name len maps = record {
   maps = maps;
 }
 
-nodes_same : (a b : Node) → a.slot ≡ b.slot → a.kind ≡ b.kind → a.parent ≡ b.parent → a.name ≡ b.name → a.length ≡ b.length → a.maps ≡ b.maps → a ≡ b
+pub nodes_same : (a b : Node) → a.slot ≡ b.slot → a.kind ≡ b.kind → a.parent ≡ b.parent → a.name ≡ b.name → a.length ≡ b.length → a.maps ≡ b.maps → a ≡ b
 nodes_same a b e0 e1 e2 e3 e4 e5 =
     ap (λ (x : ℕ). made x a.kind a.parent a.name a.length a.maps) e0
     ∙ ap (λ (x : NodeKind). made b.slot x a.parent a.name a.length a.maps) e1

@@ -5,31 +5,31 @@ use Rattle.vb_inode.specs.Layout.{four_bytes, eight_bytes, Fields, FitsBlock, se
 use Rattle.vb_inode.proofs.Numbers.{length-four_bytes, length-eight_bytes, fronts_same, four_bytes_same, eight_bytes_same}
 
 -- what follows each field
-abbrev after_8 : Fields → List ℕ
+abbrev pub after_8 : Fields → List ℕ
 after_8 f = f.maps ++ []
 
-abbrev after_7 : Fields → List ℕ
+abbrev pub after_7 : Fields → List ℕ
 after_7 f = f.name ++ after_8 f
 
-abbrev after_6 : Fields → List ℕ
+abbrev pub after_6 : Fields → List ℕ
 after_6 f = f.gap ++ after_7 f
 
-abbrev after_5 : Fields → List ℕ
+abbrev pub after_5 : Fields → List ℕ
 after_5 f = four_bytes f.map_count ++ after_6 f
 
-abbrev after_4 : Fields → List ℕ
+abbrev pub after_4 : Fields → List ℕ
 after_4 f = eight_bytes f.file_length ++ after_5 f
 
-abbrev after_3 : Fields → List ℕ
+abbrev pub after_3 : Fields → List ℕ
 after_3 f = four_bytes f.name_length ++ after_4 f
 
-abbrev after_2 : Fields → List ℕ
+abbrev pub after_2 : Fields → List ℕ
 after_2 f = four_bytes f.parent ++ after_3 f
 
-abbrev after_1 : Fields → List ℕ
+abbrev pub after_1 : Fields → List ℕ
 after_1 f = four_bytes f.kind ++ after_2 f
 
-sealed_bytes-parts : (f : Fields) → sealed_bytes f ≡ four_bytes f.slot ++ after_1 f
+pub sealed_bytes-parts : (f : Fields) → sealed_bytes f ≡ four_bytes f.slot ++ after_1 f
 unfolding sealed_bytes
 sealed_bytes-parts f = refl
 

@@ -5,3 +5,4 @@ pub mod FieldBytes
 pub mod Checked
 pub mod Decoded
 pub mod Written
+pub mod PagesRead

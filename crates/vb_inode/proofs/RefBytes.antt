@@ -12,7 +12,7 @@ use Rattle.vb_inode.proofs.Numbers.{length-four_bytes, fronts_same, four_bytes_s
 abbrev made : ℕ → List ℕ → Ref
 made place digest = record { place = place; digest = digest }
 
-ref_same : (a b : Ref) → a.place ≡ b.place → a.digest ≡ b.digest → a ≡ b
+pub ref_same : (a b : Ref) → a.place ≡ b.place → a.digest ≡ b.digest → a ≡ b
 ref_same a b p d = ap (λ (x : ℕ). made x a.digest) p ∙ ap (λ (x : List ℕ). made b.place x) d
 
 tail : (r : Ref) (refs : List Ref) → AreRefs (r ∷ refs) → AreRefs refs

@@ -1,7 +1,7 @@
 -- The layout of node blocks and map pages: their bytes, in the order of their fields.
-use Rattle.std.specs.Prelude.{◌≡◌, ℕ, ◌-◌, ◌<◌, ◌^◌, List, [], ◌∷◌, ◌++◌, length, replicate}
+use Rattle.std.specs.Prelude.{◌≡◌, ℕ, zero, suc, ◌-◌, ◌<◌, ◌^◌, List, [], ◌∷◌, ◌++◌, length, take, drop, replicate}
 use Rattle.std.specs.List.{concat, flat_map, All}
-use Rattle.byteorder.specs.Endian.{little_bytes}
+use Rattle.byteorder.specs.Endian.{little_bytes, little_number}
 use Rattle.sha2.specs.Sha256.{sha256}
 use Rattle.vb_block.specs.declared.digest.Ref.{Ref}
 use Rattle.vb_inode.specs.declared.node.Node.{Node}
@@ -92,3 +92,34 @@ node_page node = sealed_bytes (fields_from node) ++ sha256 (sealed_bytes (fields
 -- references as they can stand in a block: a place of four bytes, and a digest of 32
 abbrev pub AreRefs : List Ref → Type 0
 AreRefs refs = All (λ r. (r.place < 2 ^ 32) × (length r.digest ≡ 32)) refs
+
+-- the number in the four bytes from a place on
+abbrev pub number4_at : ℕ → List ℕ → ℕ
+number4_at at page = little_number 4 (drop at page)
+
+-- the number in the eight bytes from a place on
+abbrev pub number8_at : ℕ → List ℕ → ℕ
+number8_at at page = little_number 8 (drop at page)
+
+-- the fields in a page
+unfoldable pub fields_in : List ℕ → Fields
+fields_in page = record {
+  slot = number4_at 0 page;
+  kind = number4_at 4 page;
+  parent = number4_at 8 page;
+  name_length = number4_at 12 page;
+  file_length = number8_at 16 page;
+  map_count = number4_at 24 page;
+  gap = take 4 (drop 28 page);
+  name = take 256 (drop 32 page);
+  maps = take 3776 (drop 288 page);
+}
+
+-- the reference at the front of some bytes
+abbrev pub ref_in : List ℕ → Ref
+ref_in bytes = record { place = number4_at 0 bytes; digest = take 32 (drop 4 bytes) }
+
+-- so many references, one after the other from the front of some bytes on
+abbrev pub refs_in : ℕ → List ℕ → List Ref
+refs_in zero bytes = []
+refs_in (suc n) bytes = ref_in bytes ∷ refs_in n (drop 36 bytes)

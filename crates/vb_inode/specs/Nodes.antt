@@ -1,5 +1,5 @@
 -- Nodes: which names, parents and lengths they may have, and how many map pages a file takes.
-use Rattle.std.specs.Prelude.{◌≡◌, ℕ, ◌+◌, ◌/◌, Bool, true, false, ◌||◌, ◌==◌, nat_le, if◌then◌else◌, IsTrue, List, length}
+use Rattle.std.specs.Prelude.{◌≡◌, ℕ, Bool, true, false, ◌||◌, ◌==◌, nat_le, if◌then◌else◌, IsTrue, List, length}
 use Rattle.vb_path.specs.Parts.{is_part}
 use Rattle.vb_tree.specs.Trees.{map_pages_of}
 use Rattle.vb_tree.specs.Refusals.{longest_file}

@@ -11,7 +11,7 @@ ghost use Rattle.vb_inode.specs.declared.errors.MapError.TheVariants as map_erro
 ghost use Rattle.vb_inode.specs.Layout.{Fields, map_page, node_page, AreRefs};
 ghost use Rattle.vb_inode.specs.Checks.{are_zeros, checked};
 ghost use Rattle.vb_inode.specs.Views.{fields_of};
-ghost use Rattle.vb_inode.specs.Reading.{Answers, Holds, IsDueTo, IsMadeOf, IsNodeOf, IsReadAs};
+ghost use Rattle.vb_inode.specs.Reading.{map_read, node_read, Answers, Holds, IsDueTo, IsMadeOf, IsMapRead, IsNodeOf, IsNodeRead, IsReadAs};
 
 use crate::bytes::{are_zeros, split_within};
 use crate::checks::checked;
@@ -32,6 +32,7 @@ const REF_BYTES: usize = 36;
 /// in the order `Kind`, `Name`, `Parent`, `Length`, `Maps`, `Rest`. The slot isn't compared with the
 /// place of the block.
 pub fn decode_node(alloc: Global, page: &Page, nodes: u32) -> Result<Node, NodeError>
+    ensures read { IsNodeRead (node_read nodes page.now) result }
     ensures due { IsDueTo nodes page.now result }
     ensures unsealed { (IsSealed page.now → ⊥)
         → result ≡ Err (node_errors.Unsealed (seal_of page.now) (sha256 (sealed_part page.now))) }
@@ -83,6 +84,7 @@ fn node_of(alloc: Global, kind: NodeKind, fields: &NodeFields<'_>) -> Result<Nod
 pub fn decode_map(alloc: Global, page: &Page, count: u32) -> Result<Refs, MapError>
     requires some { 1 ≤ count }
     requires few { count ≤ 113 }
+    ensures read { IsMapRead (map_read count page.now) result }
     ensures found { IfOk result
         (λ refs. (length refs ≡ count) × AreRefs refs × (page.now ≡ map_page refs)) }
     ensures rest { (result ≡ Err (map_errors.Wrong Rest))

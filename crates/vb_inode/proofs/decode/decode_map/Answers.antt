@@ -2,7 +2,22 @@ use Rattle.std.proofs.Common.{◌≡◌, ℕ, ◌*◌, true, drop, length, sym, 
 use Rattle.std.proofs.lemmas.Bool.{false≢true}
 use Rattle.vb_inode.specs.Checks.{are_zeros}
 use Rattle.vb_inode.proofs.RefBytes.{map_page-read, map_page-zeros, map_page_same}
+use Rattle.vb_inode.proofs.PagesRead.{map_read-read, map_read-rest}
 use Rattle.vb_inode.proofs.decode.decode_map.Goals as goal
+
+pub returns-then-not-are_zeros-clause-read : goal.returns-then-not-are_zeros-clause-read
+returns-then-not-are_zeros-clause-read c =
+    let page = c.args.page.now in
+    let k = 36 * c.args.count in
+    let tested : c.are_zeros.result ≡ are_zeros (drop k page) = c.are_zeros.ensures ∙ ap are_zeros (c.split_within.ensures.back ∙ ap (drop k) c.bytes.ensures.bytes) in
+    map_read-rest c.args.count page (sym tested ∙ c.if-not-are_zeros.true)
+
+pub returns-clause-read : goal.returns-clause-read
+returns-clause-read c =
+    let page = c.args.page.now in
+    let k = 36 * c.args.count in
+    let tested : c.are_zeros.result ≡ are_zeros (drop k page) = c.are_zeros.ensures ∙ ap are_zeros (c.split_within.ensures.back ∙ ap (drop k) c.bytes.ensures.bytes) in
+    map_read-read c.args.count page c.bytes-2.result.now c.in_ok-read_refs.field-0 c.bytes-2.ensures.bytes c.in_ok-read_refs.ensures (sym tested ∙ c.if-not-are_zeros.false)
 
 pub returns-then-not-are_zeros-clause-accepted : goal.returns-then-not-are_zeros-clause-accepted
 returns-then-not-are_zeros-clause-accepted c = λ refs len are e.

@@ -1,7 +1,18 @@
-use Rattle.std.proofs.Common.{◌^◌, ◌≤◌, arith, rules}
+use Rattle.std.proofs.Common.{◌^◌, ◌≤◌, ◌∙◌, arith, rules}
 use Rattle.vb_block.specs.Pages.{IsSealed}
 use Rattle.vb_inode.proofs.Decoded.{Holds-node_page, answer_is_due, answer_is_node, answer_is_wrong}
+use Rattle.vb_inode.proofs.PagesRead.{sealed_is_read, unsealed_read}
 use Rattle.vb_inode.proofs.decode.decode_node.Goals as goal
+
+pub returns-then-ne-clause-read : goal.returns-then-ne-clause-read
+returns-then-ne-clause-read c =
+    let open_block : IsSealed c.args.page.now → ⊥ = search rules in
+    unsealed_read c.args.nodes c.args.page.now open_block ∙ cc
+
+pub returns-clause-read : goal.returns-clause-read
+returns-clause-read c =
+    let a = c.read_sealed.ensures in
+    sealed_is_read c.args.nodes c.args.page.now a.0 c.read_sealed.result a.1 a.2
 
 pub returns-then-ne-clause-accepted : goal.returns-then-ne-clause-accepted
 returns-then-ne-clause-accepted c = λ node h e.
