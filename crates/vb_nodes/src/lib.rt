@@ -1,8 +1,10 @@
 // Which lists of nodes are a tree, the index that they make, and which places their references may name.
 #![tactic(auto)]
 
+mod claims;
 mod errors;
 
+pub use claims::Claims;
 pub use errors::TableError;
 pub use vb_block::Why;
 pub use vb_index::{Index, Limits};
