@@ -1,5 +1,5 @@
 -- After a crash at any stage of a commit, what reads give shows the old images or the new ones.
-use Rattle.std.proofs.Common.{◌≡◌, ℕ, ◌+◌, ◌<◌, List, length, Some, refl, sym, ap, subst, ◌∙◌, inl, inr, arith}
+use Rattle.std.proofs.Common.{◌≡◌, ℕ, ◌+◌, ◌*◌, ◌<◌, ◌≤◌, List, length, Some, None, refl, sym, ap, subst, ◌∙◌, inl, inr, arith}
 use Rattle.vb_disk.specs.Crashes.{MayCrashTo}
 use Rattle.vb_disk.specs.States.{DiskState, read_at}
 use Rattle.vb_head.specs.declared.head.Head.{Head}
@@ -8,10 +8,10 @@ use Rattle.vb_journal.specs.declared.commit_stage.Stage.{Stage}
 use Rattle.vb_journal.specs.declared.commit_stage.Stage.TheVariants.{Journal, Opening, Homes, Closing, Rested}
 use Rattle.vb_journal.specs.declared.commit_stage.Turn.TheVariants.{First, FirstSync, Second, SecondSync}
 use Rattle.vb_journal.specs.Images.{AreImages, image_at, slot_of}
-use Rattle.vb_journal.specs.Plans.{CanCommit, closed_head, opened_head}
-use Rattle.vb_journal.specs.Progress.{AfterCrash, Fixed, Has, IsCommitting, IsUnnamed, ShowsAt, Trying, new_images}
+use Rattle.vb_journal.specs.Plans.{CanCommit, CanFinish, CanGoOn, closed_head, opened_head}
+use Rattle.vb_journal.specs.Progress.{AfterCrash, AreUnhurt, Fixed, Has, IsCommitting, IsUnnamed, ShowsAt, Trying, new_images}
 use Rattle.vb_journal.specs.Shown.{Shows, good_of, head_shown, image_over, pages_from}
-use Rattle.vb_journal.proofs.Heads.{CanBe, CanBe-read, closed_in_range, good_of-head_page, greater-first, greater-same, greater-second, opened_in_range}
+use Rattle.vb_journal.proofs.Heads.{CanBe, CanBe-read, good_of-head_page, greater-first, greater-same, greater-second}
 use Rattle.vb_journal.proofs.Overlays.{image_over-named, image_over-unnamed, named_or_not, pages_from-images}
 use Rattle.vb_journal.proofs.TriedCells.{MayRead-Trying, Trying-from_Tried, read-Fixed}
 
@@ -75,99 +75,143 @@ each_stood head images homes reads named others slot within = elim (named_or_not
   | inr unnamed ↦ others slot within unnamed
 ]
 
--- the heads of a commit, each of them one that is read from its page
+-- the heads that a commit writes are read from their pages
 pub record AreHeads (head : Head) (epoch : ℕ) (images : List (List ℕ)) : Type 0 where
-  pub before : IsHead head
   pub opened : IsHead (opened_head head epoch images)
   pub closed : IsHead (closed_head head epoch)
 
-pub AreHeads-from : (head : Head) (epoch : ℕ) (images : List (List ℕ)) → CanCommit head epoch images → length head.id ≡ 16 → AreHeads head epoch images
+pub AreHeads-from : (head : Head) (epoch : ℕ) (images : List (List ℕ)) → CanFinish head epoch images → length head.id ≡ 16 → AreHeads head epoch images
 AreHeads-from head epoch images can id = record {
-  before = record { range = can.range; id_length = id };
-  opened = record { range = opened_in_range head epoch images can; id_length = id };
-  closed = record { range = closed_in_range head epoch images can; id_length = id };
+  opened = record { range = can.opened; id_length = id };
+  closed = record { range = can.closed; id_length = id };
 }
 
+-- a place that stands reads as before
+stands : (page : List ℕ) (d new : DiskState) (place : ℕ) → (d.cells place).hurt ≡ None → MayCrashTo d new → Has (Fixed page) (d.cells place) → read_at new place ≡ page
+stands page d new place whole crash has = read-Fixed page (d.cells place) (new.cells place) whole has (crash.each place)
+
 -- a copy that stands reads as its head
-fixed_head : (h : Head) (d new : DiskState) (place : ℕ) → IsHead h → MayCrashTo d new → Has (Fixed (head_page h)) (d.cells place) → good_of (head_read (read_at new place)) ≡ Some h
-fixed_head h d new place is crash has = good_of-head_page h (read_at new place) is (read-Fixed (head_page h) (d.cells place) (new.cells place) has (crash.each place))
+fixed_head : (h : Head) (d new : DiskState) (place : ℕ) → IsHead h → (d.cells place).hurt ≡ None → MayCrashTo d new → Has (Fixed (head_page h)) (d.cells place) → good_of (head_read (read_at new place)) ≡ Some h
+fixed_head h d new place is whole crash has = good_of-head_page h (read_at new place) is (stands (head_page h) d new place whole crash has)
 
 -- a copy that changes reads as the old or the new head, or as none
-trying_head : (old fresh : Head) (d new : DiskState) (place : ℕ) → IsHead old → IsHead fresh → MayCrashTo d new → Has (Trying (head_page old) (head_page fresh)) (d.cells place) → CanBe old fresh (good_of (head_read (read_at new place)))
-trying_head old fresh d new place old_is fresh_is crash has = CanBe-read old fresh (read_at new place) old_is fresh_is (MayRead-Trying (head_page old) (head_page fresh) (d.cells place) (new.cells place) has (crash.each place))
+trying_head : (old fresh : Head) (d new : DiskState) (place : ℕ) → IsHead old → IsHead fresh → (d.cells place).hurt ≡ None → MayCrashTo d new → Has (Trying (head_page old) (head_page fresh)) (d.cells place) → CanBe old fresh (good_of (head_read (read_at new place)))
+trying_head old fresh d new place old_is fresh_is whole crash has = CanBe-read old fresh (read_at new place) old_is fresh_is (MayRead-Trying (head_page old) (head_page fresh) (d.cells place) (new.cells place) whole has (crash.each place))
 
--- a place that stands reads as before
-stands : (page : List ℕ) (d new : DiskState) (place : ℕ) → MayCrashTo d new → Has (Fixed page) (d.cells place) → read_at new place ≡ page
-stands page d new place crash has = read-Fixed page (d.cells place) (new.cells place) has (crash.each place)
+-- ---- each stage, where no place was hurt
 
--- ---- each stage
+-- a crash of a disk without a hurt place, of which the slots that no image is for stand
+record Crashes (head : Head) (epoch : ℕ) (images : List (List ℕ)) (homes : ℕ → List ℕ) (d new : DiskState) : Type 0 where
+  can : CanFinish head epoch images
+  are : AreHeads head epoch images
+  unhurt : AreUnhurt (2 + 2 * head.nodes) d
+  crash : MayCrashTo d new
+  others : OthersRead head images homes (λ place. read_at new place)
+
+-- the heads, the places of the journal and the homes of the images are whole
+heads_whole : (head : Head) (epoch : ℕ) (images : List (List ℕ)) (homes : ℕ → List ℕ) (d new : DiskState) → Crashes head epoch images homes d new → ((d.cells 0).hurt ≡ None) × ((d.cells 1).hurt ≡ None)
+heads_whole head epoch images homes d new c = (c.unhurt 0 (omega arith), c.unhurt 1 (omega arith))
+
+journal_reads : (head : Head) (epoch : ℕ) (images : List (List ℕ)) (homes : ℕ → List ℕ) (d new : DiskState) → Crashes head epoch images homes d new → ((i : ℕ) → i < length images → Has (Fixed (image_at images i)) (d.cells (2 + head.nodes + i))) → (i : ℕ) → i < length images → read_at new (2 + head.nodes + i) ≡ image_at images i
+journal_reads head epoch images homes d new c has i within =
+    let few : length images ≤ head.nodes = c.can.opened.count in
+    stands (image_at images i) d new (2 + head.nodes + i) (c.unhurt (2 + head.nodes + i) (omega arith)) c.crash (has i within)
+
+homes_read : (head : Head) (epoch : ℕ) (images : List (List ℕ)) (homes : ℕ → List ℕ) (d new : DiskState) (pages : ℕ → List ℕ) → Crashes head epoch images homes d new → ((i : ℕ) → i < length images → Has (Fixed (pages i)) (d.cells (2 + slot_of (image_at images i)))) → (i : ℕ) → i < length images → read_at new (2 + slot_of (image_at images i)) ≡ pages i
+homes_read head epoch images homes d new pages c has i within =
+    let low = c.can.images_are.slots i within in
+    stands (pages i) d new (2 + slot_of (image_at images i)) (c.unhurt (2 + slot_of (image_at images i)) (omega arith)) c.crash (has i within)
 
 -- slots that no image is for stand at each stage
-others_stand : (head : Head) (epoch : ℕ) (images : List (List ℕ)) (homes journal : ℕ → List ℕ) (stage : Stage) (d new : DiskState) → MayCrashTo d new → IsCommitting head epoch images homes journal stage d → OthersRead head images homes (λ place. read_at new place)
-others_stand head epoch images homes journal stage d new crash is slot within unnamed = stands (homes slot) d new (2 + slot) crash (is.others slot within unnamed)
+others_stand : (head : Head) (epoch : ℕ) (images : List (List ℕ)) (homes journal : ℕ → List ℕ) (stage : Stage) (d new : DiskState) → CanFinish head epoch images → AreUnhurt (2 + 2 * head.nodes) d → MayCrashTo d new → IsCommitting head epoch images homes journal stage d → Crashes head epoch images homes d new
+others_stand head epoch images homes journal stage d new can unhurt crash is = record {
+  can = can;
+  are = AreHeads-from head epoch images can is.id;
+  unhurt = unhurt;
+  crash = crash;
+  others = λ slot within unnamed. stands (homes slot) d new (2 + slot) (unhurt (2 + slot) (omega arith)) crash (is.others slot within unnamed);
+}
 
 -- before the second opened head: the head from before counts, or the opened one, behind a whole journal
-while_opening : (head : Head) (epoch : ℕ) (images : List (List ℕ)) (homes : ℕ → List ℕ) (d new : DiskState) → CanCommit head epoch images → AreHeads head epoch images → MayCrashTo d new → Has (Trying (head_page head) (head_page (opened_head head epoch images))) (d.cells 0) → Has (Fixed (head_page head)) (d.cells 1) → ((i : ℕ) → i < length images → Has (Fixed (image_at images i)) (d.cells (2 + head.nodes + i))) → ((i : ℕ) → i < length images → Has (Fixed (homes (slot_of (image_at images i)))) (d.cells (2 + slot_of (image_at images i)))) → OthersRead head images homes (λ place. read_at new place) → ShowsAt head epoch images homes (Opening First) (λ place. read_at new place)
-while_opening head epoch images homes d new can are crash first second journal home others =
-    let counts = greater-first head (opened_head head epoch images) (good_of (head_read (read_at new 0))) (good_of (head_read (read_at new 1))) (omega arith) (trying_head head (opened_head head epoch images) d new 0 are.before are.opened crash first) (fixed_head head d new 1 are.before crash second) in
+while_opening : (head : Head) (epoch : ℕ) (images : List (List ℕ)) (homes : ℕ → List ℕ) (d new : DiskState) → CanCommit head epoch images → IsHead head → Crashes head epoch images homes d new → Has (Trying (head_page head) (head_page (opened_head head epoch images))) (d.cells 0) → Has (Fixed (head_page head)) (d.cells 1) → ((i : ℕ) → i < length images → Has (Fixed (image_at images i)) (d.cells (2 + head.nodes + i))) → ((i : ℕ) → i < length images → Has (Fixed (homes (slot_of (image_at images i)))) (d.cells (2 + slot_of (image_at images i)))) → ShowsAt head epoch images homes (Opening First) (λ place. read_at new place)
+while_opening head epoch images homes d new can is_head c first second journal home =
+    let whole = heads_whole head epoch images homes d new c in
+    let counts = greater-first head (opened_head head epoch images) (good_of (head_read (read_at new 0))) (good_of (head_read (read_at new 1))) (omega arith) (trying_head head (opened_head head epoch images) d new 0 is_head c.are.opened whole.0 c.crash first) (fixed_head head d new 1 is_head whole.1 c.crash second) in
     elim counts [
-      | inl old ↦ inl (shows_before head images homes (λ place. read_at new place) (ap count_of can.closed) old (each_stood head images homes (λ place. read_at new place) (λ i within. stands (homes (slot_of (image_at images i))) d new (2 + slot_of (image_at images i)) crash (home i within)) others))
-      | inr fresh ↦ inr (shows_opened head epoch images homes (λ place. read_at new place) can.images_are fresh (λ i within. stands (image_at images i) d new (2 + head.nodes + i) crash (journal i within)) others)
+      | inl old ↦ inl (shows_before head images homes (λ place. read_at new place) (ap count_of can.closed) old (each_stood head images homes (λ place. read_at new place) (homes_read head epoch images homes d new (λ i. homes (slot_of (image_at images i))) c home) c.others))
+      | inr fresh ↦ inr (shows_opened head epoch images homes (λ place. read_at new place) c.can.images_are fresh (journal_reads head epoch images homes d new c journal) c.others)
     ]
 
 -- from the first opened head on: the opened one counts
-once_opened : (head : Head) (epoch : ℕ) (images : List (List ℕ)) (homes : ℕ → List ℕ) (d new : DiskState) → CanCommit head epoch images → AreHeads head epoch images → MayCrashTo d new → head_shown (λ place. read_at new place) ≡ Some (opened_head head epoch images) → ((i : ℕ) → i < length images → Has (Fixed (image_at images i)) (d.cells (2 + head.nodes + i))) → OthersRead head images homes (λ place. read_at new place) → Shows (λ place. read_at new place) head epoch (new_images images homes)
-once_opened head epoch images homes d new can are crash counts journal others =
-    shows_opened head epoch images homes (λ place. read_at new place) can.images_are counts (λ i within. stands (image_at images i) d new (2 + head.nodes + i) crash (journal i within)) others
+once_opened : (head : Head) (epoch : ℕ) (images : List (List ℕ)) (homes : ℕ → List ℕ) (d new : DiskState) → Crashes head epoch images homes d new → head_shown (λ place. read_at new place) ≡ Some (opened_head head epoch images) → ((i : ℕ) → i < length images → Has (Fixed (image_at images i)) (d.cells (2 + head.nodes + i))) → Shows (λ place. read_at new place) head epoch (new_images images homes)
+once_opened head epoch images homes d new c counts journal =
+    shows_opened head epoch images homes (λ place. read_at new place) c.can.images_are counts (journal_reads head epoch images homes d new c journal) c.others
 
 -- once the images are at their homes, the closed head may count too
-once_home : (head : Head) (epoch : ℕ) (images : List (List ℕ)) (homes : ℕ → List ℕ) (d new : DiskState) → CanCommit head epoch images → MayCrashTo d new → head_shown (λ place. read_at new place) ≡ Some (closed_head head epoch) → ((i : ℕ) → i < length images → Has (Fixed (image_at images i)) (d.cells (2 + slot_of (image_at images i)))) → OthersRead head images homes (λ place. read_at new place) → Shows (λ place. read_at new place) head epoch (new_images images homes)
-once_home head epoch images homes d new can crash counts home others =
-    shows_closed head epoch images homes (λ place. read_at new place) can.images_are counts (λ i within. stands (image_at images i) d new (2 + slot_of (image_at images i)) crash (home i within)) others
+once_home : (head : Head) (epoch : ℕ) (images : List (List ℕ)) (homes : ℕ → List ℕ) (d new : DiskState) → Crashes head epoch images homes d new → head_shown (λ place. read_at new place) ≡ Some (closed_head head epoch) → ((i : ℕ) → i < length images → Has (Fixed (image_at images i)) (d.cells (2 + slot_of (image_at images i)))) → Shows (λ place. read_at new place) head epoch (new_images images homes)
+once_home head epoch images homes d new c counts home =
+    shows_closed head epoch images homes (λ place. read_at new place) c.can.images_are counts (homes_read head epoch images homes d new (λ i. image_at images i) c home) c.others
 
 -- while the first closed head is written
-while_closing : (head : Head) (epoch : ℕ) (images : List (List ℕ)) (homes : ℕ → List ℕ) (d new : DiskState) → CanCommit head epoch images → AreHeads head epoch images → MayCrashTo d new → Has (Trying (head_page (opened_head head epoch images)) (head_page (closed_head head epoch))) (d.cells 0) → Has (Fixed (head_page (opened_head head epoch images))) (d.cells 1) → ((i : ℕ) → i < length images → Has (Fixed (image_at images i)) (d.cells (2 + head.nodes + i))) → ((i : ℕ) → i < length images → Has (Fixed (image_at images i)) (d.cells (2 + slot_of (image_at images i)))) → OthersRead head images homes (λ place. read_at new place) → Shows (λ place. read_at new place) head epoch (new_images images homes)
-while_closing head epoch images homes d new can are crash first second journal home others =
-    let counts = greater-first (opened_head head epoch images) (closed_head head epoch) (good_of (head_read (read_at new 0))) (good_of (head_read (read_at new 1))) (omega arith) (trying_head (opened_head head epoch images) (closed_head head epoch) d new 0 are.opened are.closed crash first) (fixed_head (opened_head head epoch images) d new 1 are.opened crash second) in
+while_closing : (head : Head) (epoch : ℕ) (images : List (List ℕ)) (homes : ℕ → List ℕ) (d new : DiskState) → Crashes head epoch images homes d new → Has (Trying (head_page (opened_head head epoch images)) (head_page (closed_head head epoch))) (d.cells 0) → Has (Fixed (head_page (opened_head head epoch images))) (d.cells 1) → ((i : ℕ) → i < length images → Has (Fixed (image_at images i)) (d.cells (2 + head.nodes + i))) → ((i : ℕ) → i < length images → Has (Fixed (image_at images i)) (d.cells (2 + slot_of (image_at images i)))) → Shows (λ place. read_at new place) head epoch (new_images images homes)
+while_closing head epoch images homes d new c first second journal home =
+    let whole = heads_whole head epoch images homes d new c in
+    let counts = greater-first (opened_head head epoch images) (closed_head head epoch) (good_of (head_read (read_at new 0))) (good_of (head_read (read_at new 1))) (omega arith) (trying_head (opened_head head epoch images) (closed_head head epoch) d new 0 c.are.opened c.are.closed whole.0 c.crash first) (fixed_head (opened_head head epoch images) d new 1 c.are.opened whole.1 c.crash second) in
     elim counts [
-      | inl opened ↦ once_opened head epoch images homes d new can are crash opened journal others
-      | inr closed ↦ once_home head epoch images homes d new can crash closed home others
+      | inl opened ↦ once_opened head epoch images homes d new c opened journal
+      | inr closed ↦ once_home head epoch images homes d new c closed home
     ]
 
 -- the second copy of the opened head, and of the closed one
-second_opened : (head : Head) (epoch : ℕ) (images : List (List ℕ)) (d new : DiskState) → AreHeads head epoch images → MayCrashTo d new → Has (Fixed (head_page (opened_head head epoch images))) (d.cells 0) → Has (Trying (head_page head) (head_page (opened_head head epoch images))) (d.cells 1) → head_shown (λ place. read_at new place) ≡ Some (opened_head head epoch images)
-second_opened head epoch images d new are crash first second =
-    greater-second head (opened_head head epoch images) (good_of (head_read (read_at new 0))) (good_of (head_read (read_at new 1))) (omega arith) (fixed_head (opened_head head epoch images) d new 0 are.opened crash first) (trying_head head (opened_head head epoch images) d new 1 are.before are.opened crash second)
+second_opened : (head : Head) (epoch : ℕ) (images : List (List ℕ)) (homes : ℕ → List ℕ) (d new : DiskState) → IsHead head → Crashes head epoch images homes d new → Has (Fixed (head_page (opened_head head epoch images))) (d.cells 0) → Has (Trying (head_page head) (head_page (opened_head head epoch images))) (d.cells 1) → head_shown (λ place. read_at new place) ≡ Some (opened_head head epoch images)
+second_opened head epoch images homes d new is_head c first second =
+    let whole = heads_whole head epoch images homes d new c in
+    greater-second head (opened_head head epoch images) (good_of (head_read (read_at new 0))) (good_of (head_read (read_at new 1))) (omega arith) (fixed_head (opened_head head epoch images) d new 0 c.are.opened whole.0 c.crash first) (trying_head head (opened_head head epoch images) d new 1 is_head c.are.opened whole.1 c.crash second)
 
-second_closed : (head : Head) (epoch : ℕ) (images : List (List ℕ)) (d new : DiskState) → AreHeads head epoch images → MayCrashTo d new → Has (Fixed (head_page (closed_head head epoch))) (d.cells 0) → Has (Trying (head_page (opened_head head epoch images)) (head_page (closed_head head epoch))) (d.cells 1) → head_shown (λ place. read_at new place) ≡ Some (closed_head head epoch)
-second_closed head epoch images d new are crash first second =
-    greater-second (opened_head head epoch images) (closed_head head epoch) (good_of (head_read (read_at new 0))) (good_of (head_read (read_at new 1))) (omega arith) (fixed_head (closed_head head epoch) d new 0 are.closed crash first) (trying_head (opened_head head epoch images) (closed_head head epoch) d new 1 are.opened are.closed crash second)
+second_closed : (head : Head) (epoch : ℕ) (images : List (List ℕ)) (homes : ℕ → List ℕ) (d new : DiskState) → Crashes head epoch images homes d new → Has (Fixed (head_page (closed_head head epoch))) (d.cells 0) → Has (Trying (head_page (opened_head head epoch images)) (head_page (closed_head head epoch))) (d.cells 1) → head_shown (λ place. read_at new place) ≡ Some (closed_head head epoch)
+second_closed head epoch images homes d new c first second =
+    let whole = heads_whole head epoch images homes d new c in
+    greater-second (opened_head head epoch images) (closed_head head epoch) (good_of (head_read (read_at new 0))) (good_of (head_read (read_at new 1))) (omega arith) (fixed_head (closed_head head epoch) d new 0 c.are.closed whole.0 c.crash first) (trying_head (opened_head head epoch images) (closed_head head epoch) d new 1 c.are.opened c.are.closed whole.1 c.crash second)
 
-both_stand : (h : Head) (d new : DiskState) → IsHead h → MayCrashTo d new → Has (Fixed (head_page h)) (d.cells 0) → Has (Fixed (head_page h)) (d.cells 1) → head_shown (λ place. read_at new place) ≡ Some h
-both_stand h d new is crash first second = greater-same h (good_of (head_read (read_at new 0))) (good_of (head_read (read_at new 1))) (fixed_head h d new 0 is crash first) (fixed_head h d new 1 is crash second)
+both_stand : (h head : Head) (epoch : ℕ) (images : List (List ℕ)) (homes : ℕ → List ℕ) (d new : DiskState) → IsHead h → Crashes head epoch images homes d new → Has (Fixed (head_page h)) (d.cells 0) → Has (Fixed (head_page h)) (d.cells 1) → head_shown (λ place. read_at new place) ≡ Some h
+both_stand h head epoch images homes d new is c first second =
+    let whole = heads_whole head epoch images homes d new c in
+    greater-same h (good_of (head_read (read_at new 0))) (good_of (head_read (read_at new 1))) (fixed_head h d new 0 is whole.0 c.crash first) (fixed_head h d new 1 is whole.1 c.crash second)
 
 -- after a crash at each stage
-pub AfterCrash-ShowsAt : (head : Head) (epoch : ℕ) (images : List (List ℕ)) (homes journal : ℕ → List ℕ) (stage : Stage) (d : DiskState) → CanCommit head epoch images → AreHeads head epoch images → IsCommitting head epoch images homes journal stage d → AfterCrash (ShowsAt head epoch images homes stage) d
-AfterCrash-ShowsAt head epoch images homes journal (Journal next) d can are is new crash =
-    let others = others_stand head epoch images homes journal (Journal next) d new crash is in
-    inl (shows_before head images homes (λ place. read_at new place) (ap count_of can.closed) (both_stand head d new are.before crash is.first is.second) (each_stood head images homes (λ place. read_at new place) (λ i within. stands (homes (slot_of (image_at images i))) d new (2 + slot_of (image_at images i)) crash (is.at_home i within)) others))
-AfterCrash-ShowsAt head epoch images homes journal (Opening First) d can are is new crash =
-    while_opening head epoch images homes d new can are crash is.first is.second is.in_journal is.at_home (others_stand head epoch images homes journal (Opening First) d new crash is)
-AfterCrash-ShowsAt head epoch images homes journal (Opening FirstSync) d can are is new crash =
-    while_opening head epoch images homes d new can are crash (Trying-from_Tried (head_page head) (head_page (opened_head head epoch images)) (d.cells 0) is.first) is.second is.in_journal is.at_home (others_stand head epoch images homes journal (Opening FirstSync) d new crash is)
-AfterCrash-ShowsAt head epoch images homes journal (Opening Second) d can are is new crash =
-    inr (once_opened head epoch images homes d new can are crash (second_opened head epoch images d new are crash is.first is.second) is.in_journal (others_stand head epoch images homes journal (Opening Second) d new crash is))
-AfterCrash-ShowsAt head epoch images homes journal (Opening SecondSync) d can are is new crash =
-    inr (once_opened head epoch images homes d new can are crash (second_opened head epoch images d new are crash is.first (Trying-from_Tried (head_page head) (head_page (opened_head head epoch images)) (d.cells 1) is.second)) is.in_journal (others_stand head epoch images homes journal (Opening SecondSync) d new crash is))
-AfterCrash-ShowsAt head epoch images homes journal (Homes next) d can are is new crash =
-    once_opened head epoch images homes d new can are crash (both_stand (opened_head head epoch images) d new are.opened crash is.first is.second) is.in_journal (others_stand head epoch images homes journal (Homes next) d new crash is)
-AfterCrash-ShowsAt head epoch images homes journal (Closing First) d can are is new crash =
-    while_closing head epoch images homes d new can are crash is.first is.second is.in_journal is.at_home (others_stand head epoch images homes journal (Closing First) d new crash is)
-AfterCrash-ShowsAt head epoch images homes journal (Closing FirstSync) d can are is new crash =
-    while_closing head epoch images homes d new can are crash (Trying-from_Tried (head_page (opened_head head epoch images)) (head_page (closed_head head epoch)) (d.cells 0) is.first) is.second is.in_journal is.at_home (others_stand head epoch images homes journal (Closing FirstSync) d new crash is)
-AfterCrash-ShowsAt head epoch images homes journal (Closing Second) d can are is new crash =
-    once_home head epoch images homes d new can crash (second_closed head epoch images d new are crash is.first is.second) is.at_home (others_stand head epoch images homes journal (Closing Second) d new crash is)
-AfterCrash-ShowsAt head epoch images homes journal (Closing SecondSync) d can are is new crash =
-    once_home head epoch images homes d new can crash (second_closed head epoch images d new are crash is.first (Trying-from_Tried (head_page (opened_head head epoch images)) (head_page (closed_head head epoch)) (d.cells 1) is.second)) is.at_home (others_stand head epoch images homes journal (Closing SecondSync) d new crash is)
-AfterCrash-ShowsAt head epoch images homes journal Rested d can are is new crash =
-    once_home head epoch images homes d new can crash (both_stand (closed_head head epoch) d new are.closed crash is.first is.second) is.at_home (others_stand head epoch images homes journal Rested d new crash is)
+pub AfterCrash-ShowsAt : (head : Head) (epoch : ℕ) (images : List (List ℕ)) (homes journal : ℕ → List ℕ) (stage : Stage) (d : DiskState) → CanGoOn head epoch images stage → IsCommitting head epoch images homes journal stage d → AreUnhurt (2 + 2 * head.nodes) d → AfterCrash (ShowsAt head epoch images homes stage) d
+AfterCrash-ShowsAt head epoch images homes journal (Journal next) d can is unhurt new crash =
+    let c = others_stand head epoch images homes journal (Journal next) d new can.finish unhurt crash is in
+    let early = can.early refl in
+    let before : IsHead head = record { range = early.range; id_length = is.id } in
+    inl (shows_before head images homes (λ place. read_at new place) (ap count_of early.closed) (both_stand head head epoch images homes d new before c is.first is.second) (each_stood head images homes (λ place. read_at new place) (homes_read head epoch images homes d new (λ i. homes (slot_of (image_at images i))) c is.at_home) c.others))
+AfterCrash-ShowsAt head epoch images homes journal (Opening First) d can is unhurt new crash =
+    let early = can.early refl in
+    while_opening head epoch images homes d new early (record { range = early.range; id_length = is.id }) (others_stand head epoch images homes journal (Opening First) d new can.finish unhurt crash is) is.first is.second is.in_journal is.at_home
+AfterCrash-ShowsAt head epoch images homes journal (Opening FirstSync) d can is unhurt new crash =
+    let early = can.early refl in
+    while_opening head epoch images homes d new early (record { range = early.range; id_length = is.id }) (others_stand head epoch images homes journal (Opening FirstSync) d new can.finish unhurt crash is) (Trying-from_Tried (head_page head) (head_page (opened_head head epoch images)) (d.cells 0) is.first) is.second is.in_journal is.at_home
+AfterCrash-ShowsAt head epoch images homes journal (Opening Second) d can is unhurt new crash =
+    let c = others_stand head epoch images homes journal (Opening Second) d new can.finish unhurt crash is in
+    let early = can.early refl in
+    inr (once_opened head epoch images homes d new c (second_opened head epoch images homes d new (record { range = early.range; id_length = is.id }) c is.first is.second) is.in_journal)
+AfterCrash-ShowsAt head epoch images homes journal (Opening SecondSync) d can is unhurt new crash =
+    let c = others_stand head epoch images homes journal (Opening SecondSync) d new can.finish unhurt crash is in
+    let early = can.early refl in
+    inr (once_opened head epoch images homes d new c (second_opened head epoch images homes d new (record { range = early.range; id_length = is.id }) c is.first (Trying-from_Tried (head_page head) (head_page (opened_head head epoch images)) (d.cells 1) is.second)) is.in_journal)
+AfterCrash-ShowsAt head epoch images homes journal (Homes next) d can is unhurt new crash =
+    let c = others_stand head epoch images homes journal (Homes next) d new can.finish unhurt crash is in
+    once_opened head epoch images homes d new c (both_stand (opened_head head epoch images) head epoch images homes d new c.are.opened c is.first is.second) is.in_journal
+AfterCrash-ShowsAt head epoch images homes journal (Closing First) d can is unhurt new crash =
+    while_closing head epoch images homes d new (others_stand head epoch images homes journal (Closing First) d new can.finish unhurt crash is) is.first is.second is.in_journal is.at_home
+AfterCrash-ShowsAt head epoch images homes journal (Closing FirstSync) d can is unhurt new crash =
+    while_closing head epoch images homes d new (others_stand head epoch images homes journal (Closing FirstSync) d new can.finish unhurt crash is) (Trying-from_Tried (head_page (opened_head head epoch images)) (head_page (closed_head head epoch)) (d.cells 0) is.first) is.second is.in_journal is.at_home
+AfterCrash-ShowsAt head epoch images homes journal (Closing Second) d can is unhurt new crash =
+    let c = others_stand head epoch images homes journal (Closing Second) d new can.finish unhurt crash is in
+    once_home head epoch images homes d new c (second_closed head epoch images homes d new c is.first is.second) is.at_home
+AfterCrash-ShowsAt head epoch images homes journal (Closing SecondSync) d can is unhurt new crash =
+    let c = others_stand head epoch images homes journal (Closing SecondSync) d new can.finish unhurt crash is in
+    once_home head epoch images homes d new c (second_closed head epoch images homes d new c is.first (Trying-from_Tried (head_page (opened_head head epoch images)) (head_page (closed_head head epoch)) (d.cells 1) is.second)) is.at_home
+AfterCrash-ShowsAt head epoch images homes journal Rested d can is unhurt new crash =
+    let c = others_stand head epoch images homes journal Rested d new can.finish unhurt crash is in
+    once_home head epoch images homes d new c (both_stand (closed_head head epoch) head epoch images homes d new c.are.closed c is.first is.second) is.at_home

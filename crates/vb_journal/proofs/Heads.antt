@@ -11,12 +11,13 @@ use Rattle.vb_head.specs.declared.head.HeadRead.TheVariants.{Alien, Unsealed, Bl
 use Rattle.vb_head.specs.Layout.{are_zeros, fields_of}
 use Rattle.vb_head.specs.Heads.{IsHead, IsInRange, fault_of, head_from, head_page, head_read, is_marked, judged}
 use Rattle.vb_head.proofs.HeadsRead.{head_read-head_page}
-use Rattle.vb_journal.specs.Plans.{CanCommit, closed_head, opened_head}
+use Rattle.vb_journal.specs.declared.commit_stage.Stage.{Stage}
+use Rattle.vb_journal.specs.Plans.{CanCommit, CanGoOn, closed_head, opened_head}
 use Rattle.vb_journal.specs.Shown.{good_of, greater}
 use Rattle.vb_journal.proofs.TriedCells.{MayRead}
 
 -- both heads of a commit are in their ranges
-pub opened_in_range : (head : Head) (epoch : ℕ) (images : List (List ℕ)) → CanCommit head epoch images → IsInRange (opened_head head epoch images)
+opened_in_range : (head : Head) (epoch : ℕ) (images : List (List ℕ)) → CanCommit head epoch images → IsInRange (opened_head head epoch images)
 opened_in_range head epoch images can =
     let r = can.range in
     record {
@@ -31,7 +32,7 @@ opened_in_range head epoch images can =
       count = can.count;
     }
 
-pub closed_in_range : (head : Head) (epoch : ℕ) (images : List (List ℕ)) → CanCommit head epoch images → IsInRange (closed_head head epoch)
+closed_in_range : (head : Head) (epoch : ℕ) (images : List (List ℕ)) → CanCommit head epoch images → IsInRange (closed_head head epoch)
 closed_in_range head epoch images can =
     let r = can.range in
     record {
@@ -45,6 +46,13 @@ closed_in_range head epoch images can =
       epoch = can.new_epoch;
       count = omega arith;
     }
+
+-- what may be committed can be finished, and goes on from its first stage
+pub CanGoOn-start : (head : Head) (epoch : ℕ) (images : List (List ℕ)) (stage : Stage) → CanCommit head epoch images → CanGoOn head epoch images stage
+CanGoOn-start head epoch images stage can = record {
+  finish = record { opened = opened_in_range head epoch images can; closed = closed_in_range head epoch images can; images_are = can.images_are };
+  early = λ is. can;
+}
 
 -- a page that isn't sealed is no head
 unsealed_answer : (z s : Bool) (kept found : List ℕ) (rest : HeadRead) → s ≡ false → good_of (cond z Blank (cond (not s) (Unsealed kept found) rest)) ≡ None

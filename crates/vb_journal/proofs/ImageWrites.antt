@@ -9,7 +9,7 @@ use Rattle.vb_disk.specs.States.{DiskState, Sync, Write}
 use Rattle.vb_head.specs.declared.head.Head.{Head}
 use Rattle.vb_journal.specs.Calls.{Makes}
 use Rattle.vb_journal.specs.Images.{image_at, slot_of}
-use Rattle.vb_journal.specs.Plans.{CanCommit}
+use Rattle.vb_journal.specs.Plans.{CanFinish}
 
 -- the image that was taken from the list
 image_read : (images : List (List ℕ)) (next : ℕ) (image : List ℕ) → slice_get images next ≡ Some image → image_at images next ≡ image
@@ -21,11 +21,11 @@ unfolding slot_of
 slot_read images next image value taken read = read ∙ ap (little_number 4) (sym (image_read images next image taken))
 
 -- a home lies in the store
-pub home_within : (head : Head) (epoch : ℕ) (images : List (List ℕ)) (next value : ℕ) → CanCommit head epoch images → next < length images → value ≡ slot_of (image_at images next) → (2 + value < head.blocks) × (head.blocks ≤ 262144)
+pub home_within : (head : Head) (epoch : ℕ) (images : List (List ℕ)) (next value : ℕ) → CanFinish head epoch images → next < length images → value ≡ slot_of (image_at images next) → (2 + value < head.blocks) × (head.blocks ≤ 262144)
 home_within head epoch images next value can left is =
     let low = can.images_are.slots next left in
-    let space = can.range.space in
-    let few = can.range.blocks in
+    let space = can.closed.space in
+    let few = can.closed.blocks in
     (omega arith, few)
 
 pub made_at_home : (images : List (List ℕ)) (next : ℕ) (image : List ℕ) (value : ℕ) (old new : Option DiskState) (result : Result (Unit {0}) DiskError) → next < length images → slice_get images next ≡ Some image → value ≡ little_number 4 image → Makes (Write (2 + value) image) old new result → Makes (cond (ltb next (length images)) (Write (2 + slot_of (image_at images next)) (image_at images next)) Sync) old new result

@@ -1,8 +1,9 @@
 -- Each call of a commit keeps what is known of its places.
-use Rattle.std.proofs.Common.{◌≡◌, ◌≢◌, ℕ, ◌+◌, ◌<◌, ◌≤◌, Bool, true, false, cond, ltb, List, length, sym, subst, inl, inr, arith}
+use Rattle.std.proofs.Common.{◌≡◌, ◌≢◌, ℕ, ◌+◌, ◌<◌, ◌≤◌, Bool, true, false, cond, eqb, ltb, List, length, refl, sym, subst, inl, inr, arith}
 use Rattle.std.proofs.lemmas.Bool.{cases_eq, cases_lt, lt-ltb, le-ltb}
 use Rattle.vb_disk.specs.declared.cell.Cell.{Cell}
-use Rattle.vb_disk.specs.Cells.{synced_cell}
+use Rattle.vb_disk.specs.Cells.{candidates, hurt_cell, synced_cell}
+use Rattle.vb_disk.specs.Crashes.{damaged}
 use Rattle.vb_disk.specs.States.{DiskState, Sync, Write, after_call, written, synced}
 use Rattle.vb_head.specs.declared.head.Head.{Head}
 use Rattle.vb_head.specs.Heads.{head_page}
@@ -11,8 +12,8 @@ use Rattle.vb_journal.specs.declared.commit_stage.Stage.TheVariants.{Journal, Op
 use Rattle.vb_journal.specs.declared.commit_stage.Turn.TheVariants.{First, FirstSync, Second, SecondSync}
 use Rattle.vb_journal.specs.Images.{AreImages, image_at, slot_of}
 use Rattle.vb_journal.specs.Plans.{closed_head, due_call, is_rested, next_stage, opened_head}
-use Rattle.vb_journal.specs.Progress.{Fixed, Has, IsAtRest, IsCommitting, Tried, Trying, passed_by}
-use Rattle.vb_journal.proofs.TriedCells.{Fixed-stays, Fixed-synced, Has-elsewhere, Has-here, Trying-from_Fixed, Trying-from_Tried}
+use Rattle.vb_journal.specs.Progress.{Fixed, Has, HaveSameCandidates, IsAtRest, IsCommitting, Tried, Trying, first_at, home_at, journal_at, passed_by, second_at}
+use Rattle.vb_journal.proofs.TriedCells.{Fixed-stays, Fixed-synced, Has-elsewhere, Has-here, Has-same, Trying-from_Fixed, Trying-from_Tried}
 
 -- ---- images that were passed by
 
@@ -342,3 +343,50 @@ IsCommitting-at_rest head epoch images homes journal d fits are is = record {
   beyond = λ i past within. is.each_image i within;
   others = λ slot within unnamed. is.each_home slot within;
 }
+
+-- a store at rest with the opened head, and its images in the journal, is one from which they go home
+pub IsCommitting-opened : (head : Head) (epoch : ℕ) (images : List (List ℕ)) (homes journal : ℕ → List ℕ) (d : DiskState) → length images ≤ head.nodes → AreImages head.nodes images → IsAtRest (opened_head head epoch images) homes journal d → ((i : ℕ) → i < length images → journal i ≡ image_at images i) → IsCommitting head epoch images homes journal (Homes 0) d
+IsCommitting-opened head epoch images homes journal d fits are is counted = record {
+  id = is.id;
+  first = is.first;
+  second = is.second;
+  in_journal = λ i within. subst (λ (p : List ℕ). Has (Fixed p) (d.cells (2 + head.nodes + i))) (counted i within) (is.each_image i (omega arith));
+  at_home = λ i within. passed_none i (homes (slot_of (image_at images i))) (image_at images i) (d.cells (2 + slot_of (image_at images i))) (is.each_home (slot_of (image_at images i)) (are.slots i within));
+  beyond = λ i past within. is.each_image i within;
+  others = λ slot within unnamed. is.each_home slot within;
+}
+
+-- ---- damage
+
+-- what is known is known of the candidates
+pub IsCommitting-same : (head : Head) (epoch : ℕ) (images : List (List ℕ)) (homes journal : ℕ → List ℕ) (stage : Stage) (old new : DiskState) → HaveSameCandidates old new → IsCommitting head epoch images homes journal stage old → IsCommitting head epoch images homes journal stage new
+IsCommitting-same head epoch images homes journal stage old new same is =
+    let before = head_page head in
+    let opened = head_page (opened_head head epoch images) in
+    let closed = head_page (closed_head head epoch) in
+    record {
+      id = is.id;
+      first = Has-same (first_at before opened closed stage) (old.cells 0) (new.cells 0) (same 0) is.first;
+      second = Has-same (second_at before opened closed stage) (old.cells 1) (new.cells 1) (same 1) is.second;
+      in_journal = λ i within. let p = 2 + head.nodes + i in Has-same (journal_at i (journal i) (image_at images i) stage) (old.cells p) (new.cells p) (same p) (is.in_journal i within);
+      at_home = λ i within. let p = 2 + slot_of (image_at images i) in Has-same (home_at i (homes (slot_of (image_at images i))) (image_at images i) stage) (old.cells p) (new.cells p) (same p) (is.at_home i within);
+      beyond = λ i past within. let p = 2 + head.nodes + i in Has-same (Fixed (journal i)) (old.cells p) (new.cells p) (same p) (is.beyond i past within);
+      others = λ slot within unnamed. Has-same (Fixed (homes slot)) (old.cells (2 + slot)) (new.cells (2 + slot)) (same (2 + slot)) (is.others slot within unnamed);
+    }
+
+pub IsAtRest-same : (head : Head) (homes journal : ℕ → List ℕ) (old new : DiskState) → HaveSameCandidates old new → IsAtRest head homes journal old → IsAtRest head homes journal new
+IsAtRest-same head homes journal old new same is = record {
+  id = is.id;
+  first = Has-same (Fixed (head_page head)) (old.cells 0) (new.cells 0) (same 0) is.first;
+  second = Has-same (Fixed (head_page head)) (old.cells 1) (new.cells 1) (same 1) is.second;
+  each_home = λ slot within. Has-same (Fixed (homes slot)) (old.cells (2 + slot)) (new.cells (2 + slot)) (same (2 + slot)) (is.each_home slot within);
+  each_image = λ i within. let p = 2 + head.nodes + i in Has-same (Fixed (journal i)) (old.cells p) (new.cells p) (same p) (is.each_image i within);
+}
+
+same_if_hurt : (here : Bool) (cell : Cell) (bytes : List ℕ) → candidates (cond here (hurt_cell cell bytes) cell) ≡ candidates cell
+same_if_hurt true cell bytes = refl
+same_if_hurt false cell bytes = refl
+
+-- damage leaves the candidates
+pub HaveSameCandidates-damaged : (d : DiskState) (place : ℕ) (page : List ℕ) → HaveSameCandidates d (damaged d place page)
+HaveSameCandidates-damaged d place page q = same_if_hurt (eqb q place) (d.cells q) page

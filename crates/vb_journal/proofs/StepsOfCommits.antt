@@ -1,5 +1,5 @@
 -- What a step of a commit leaves, at Ok and after an error.
-use Rattle.std.proofs.Common.{◌≡◌, ℕ, ◌+◌, Bool, true, false, cond, ltb, List, length, Option, Some, refl, sym, subst, ◌∙◌, ◌⊎◌, inl, inr}
+use Rattle.std.proofs.Common.{◌≡◌, ℕ, ◌+◌, ◌*◌, Bool, true, false, cond, ltb, List, length, Option, Some, refl, sym, subst, ◌∙◌, ◌⊎◌, inl, inr}
 use Rattle.std.proofs.lemmas.Bool.{cases_lt, lt-ltb, le-ltb}
 use Rattle.vb_disk.specs.declared.disk_error.DiskError.{DiskError}
 use Rattle.vb_disk.specs.declared.disk_error.DiskError.TheVariants.{Failed, Memory}
@@ -12,9 +12,9 @@ use Rattle.vb_journal.specs.declared.commit_stage.Stage.TheVariants.{Journal, Op
 use Rattle.vb_journal.specs.declared.commit_stage.Turn.TheVariants.{First, FirstSync, Second, SecondSync}
 use Rattle.vb_journal.specs.Calls.{Makes, MayFailTo}
 use Rattle.vb_journal.specs.Images.{image_at, slot_of}
-use Rattle.vb_journal.specs.Plans.{CanCommit, closed_head, due_call, is_rested, next_stage, opened_head}
-use Rattle.vb_journal.specs.Progress.{AfterCrash, GoesOn, IsCommitting, ShowsAt}
-use Rattle.vb_journal.proofs.AfterCrashes.{AfterCrash-ShowsAt, AreHeads-from}
+use Rattle.vb_journal.specs.Plans.{CanFinish, CanGoOn, closed_head, due_call, is_early, is_rested, next_stage, opened_head}
+use Rattle.vb_journal.specs.Progress.{AfterCrash, AreUnhurt, GoesOn, IsCommitting, ShowsAt}
+use Rattle.vb_journal.proofs.AfterCrashes.{AfterCrash-ShowsAt}
 use Rattle.vb_journal.proofs.FirstCalls.{gone}
 use Rattle.vb_journal.proofs.Keeping.{keeps, keeps-homes, keeps-journal, retries-closing-first, retries-closing-second, retries-homes, retries-journal, retries-opening-first, retries-opening-second, writes-closing-first, writes-closing-second, writes-opening-first, writes-opening-second}
 
@@ -33,7 +33,7 @@ tries_sync : (head : Head) (epoch : ℕ) (images : List (List ℕ)) (homes journ
 tries_sync head epoch images homes journal stage d told may is = (d, may, is, inl refl)
 
 -- after a call that failed, the disk is known at the same stage
-pub tries : (head : Head) (epoch : ℕ) (images : List (List ℕ)) (homes journal : ℕ → List ℕ) (stage : Stage) (d : DiskState) (told : Option DiskState) → CanCommit head epoch images → is_rested stage ≡ false → MayFailTo (due_call head epoch images stage) d told → IsCommitting head epoch images homes journal stage d → Tries head epoch images homes journal stage (due_call head epoch images stage) d told
+pub tries : (head : Head) (epoch : ℕ) (images : List (List ℕ)) (homes journal : ℕ → List ℕ) (stage : Stage) (d : DiskState) (told : Option DiskState) → CanFinish head epoch images → is_rested stage ≡ false → MayFailTo (due_call head epoch images stage) d told → IsCommitting head epoch images homes journal stage d → Tries head epoch images homes journal stage (due_call head epoch images stage) d told
 tries head epoch images homes journal (Journal next) d told can going may is =
     let Q : Bool → Type 0 = λ b. MayFailTo (cond b (Write (2 + head.nodes + next) (image_at images next)) Sync) d told → Tries head epoch images homes journal (Journal next) (cond b (Write (2 + head.nodes + next) (image_at images next)) Sync) d told in
     elim (cases_lt next (length images)) [
@@ -78,34 +78,67 @@ shown_before head epoch images homes (Closing Second) reads shows = shows
 shown_before head epoch images homes (Closing SecondSync) reads shows = shows
 shown_before head epoch images homes Rested reads shows = shows
 
--- each crash shows what the stage shows
-shown : (head : Head) (epoch : ℕ) (images : List (List ℕ)) (homes journal : ℕ → List ℕ) (stage : Stage) (d : DiskState) → CanCommit head epoch images → IsCommitting head epoch images homes journal stage d → AfterCrash (ShowsAt head epoch images homes stage) d
-shown head epoch images homes journal stage d can is = AfterCrash-ShowsAt head epoch images homes journal stage d can (AreHeads-from head epoch images can is.id) is
+-- a moment that is known at the stage or at the one after it
+abbrev Known : Head → ℕ → List (List ℕ) → (ℕ → List ℕ) → (ℕ → List ℕ) → Stage → Stage → DiskState → Type 0
+Known head epoch images homes journal before after m = IsCommitting head epoch images homes journal before m ⊎ IsCommitting head epoch images homes journal after m
 
-pub goes_on-made : (head : Head) (epoch : ℕ) (images : List (List ℕ)) (homes journal : ℕ → List ℕ) (stage : Stage) (old new : Option DiskState) → CanCommit head epoch images → is_rested stage ≡ false → ((d : DiskState) → old ≡ Some d → new ≡ Some (after_call d (due_call head epoch images stage))) → GoesOn head epoch images homes journal stage (next_stage (length images) stage) old new
+-- where no place is hurt by then, each crash shows what the stage shows
+abbrev Shown : Head → ℕ → List (List ℕ) → (ℕ → List ℕ) → Stage → DiskState → Type 0
+Shown head epoch images homes stage m = AreUnhurt (2 + 2 * head.nodes) m → AfterCrash (ShowsAt head epoch images homes stage) m
+
+homes_are_late : (b : Bool) (next : ℕ) → is_early (cond b (Homes (next + 1)) (Closing First)) ≡ true → is_early (Homes next) ≡ true
+homes_are_late true next is = is
+homes_are_late false next is = is
+
+-- a commit that can go on from a stage can go on from the next one
+early_before : (count : ℕ) (stage : Stage) → is_early (next_stage count stage) ≡ true → is_early stage ≡ true
+early_before count (Journal next) is = refl
+early_before count (Opening turn) is = refl
+early_before count (Homes next) is = homes_are_late (ltb next count) next is
+early_before count (Closing First) is = is
+early_before count (Closing FirstSync) is = is
+early_before count (Closing Second) is = is
+early_before count (Closing SecondSync) is = is
+early_before count Rested is = is
+
+pub CanGoOn-next : (head : Head) (epoch : ℕ) (images : List (List ℕ)) (stage : Stage) → CanGoOn head epoch images stage → CanGoOn head epoch images (next_stage (length images) stage)
+CanGoOn-next head epoch images stage can = record { finish = can.finish; early = λ is. can.early (early_before (length images) stage is) }
+
+pub goes_on-made : (head : Head) (epoch : ℕ) (images : List (List ℕ)) (homes journal : ℕ → List ℕ) (stage : Stage) (old new : Option DiskState) → CanGoOn head epoch images stage → is_rested stage ≡ false → ((d : DiskState) → old ≡ Some d → new ≡ Some (after_call d (due_call head epoch images stage))) → GoesOn head epoch images homes journal stage (next_stage (length images) stage) old new
 goes_on-made head epoch images homes journal stage old new can going made d told is =
-    let then = keeps head epoch images homes journal stage d can.images_are going is in (
-      after_call d (due_call head epoch images stage),
-      made d told,
-      then,
-      EachMoment-call (AfterCrash (ShowsAt head epoch images homes stage)) d (due_call head epoch images stage) (shown head epoch images homes journal stage d can is)
-          (λ crashed crash. shown_before head epoch images homes stage (λ place. read_at crashed place) (shown head epoch images homes journal (next_stage (length images) stage) (after_call d (due_call head epoch images stage)) can then crashed crash)),
-    )
+    let then = keeps head epoch images homes journal stage d can.finish.images_are going is in
+    let next = next_stage (length images) stage in
+    record {
+      next = after_call d (due_call head epoch images stage);
+      told = made d told;
+      known = then;
+      moments = EachMoment-call (Known head epoch images homes journal stage next) d (due_call head epoch images stage) (inl is) (inr then);
+      crashes = EachMoment-call (Shown head epoch images homes stage) d (due_call head epoch images stage)
+          (AfterCrash-ShowsAt head epoch images homes journal stage d can is)
+          (λ unhurt crashed crash. shown_before head epoch images homes stage (λ place. read_at crashed place) (AfterCrash-ShowsAt head epoch images homes journal next (after_call d (due_call head epoch images stage)) (CanGoOn-next head epoch images stage can) then unhurt crashed crash));
+    }
 
-pub goes_on-failed : (head : Head) (epoch : ℕ) (images : List (List ℕ)) (homes journal : ℕ → List ℕ) (stage : Stage) (old new : Option DiskState) → CanCommit head epoch images → is_rested stage ≡ false → ((d : DiskState) → old ≡ Some d → MayFailTo (due_call head epoch images stage) d new) → GoesOn head epoch images homes journal stage stage old new
+pub goes_on-failed : (head : Head) (epoch : ℕ) (images : List (List ℕ)) (homes journal : ℕ → List ℕ) (stage : Stage) (old new : Option DiskState) → CanGoOn head epoch images stage → is_rested stage ≡ false → ((d : DiskState) → old ≡ Some d → MayFailTo (due_call head epoch images stage) d new) → GoesOn head epoch images homes journal stage stage old new
 goes_on-failed head epoch images homes journal stage old new can going failed d told is =
-    let tried = tries head epoch images homes journal stage d new can going (failed d told) is in (
-      tried.0,
-      tried.1,
-      tried.2,
-      EachMoment-tried (AfterCrash (ShowsAt head epoch images homes stage)) d tried.0 (due_call head epoch images stage) tried.3 (shown head epoch images homes journal stage d can is) (shown head epoch images homes journal stage tried.0 can tried.2),
-    )
+    let tried = tries head epoch images homes journal stage d new can.finish going (failed d told) is in
+    record {
+      next = tried.0;
+      told = tried.1;
+      known = tried.2;
+      moments = EachMoment-tried (Known head epoch images homes journal stage stage) d tried.0 (due_call head epoch images stage) tried.3 (inl is) (inl tried.2);
+      crashes = EachMoment-tried (Shown head epoch images homes stage) d tried.0 (due_call head epoch images stage) tried.3 (AfterCrash-ShowsAt head epoch images homes journal stage d can is) (AfterCrash-ShowsAt head epoch images homes journal stage tried.0 can tried.2);
+    }
 
-pub goes_on-none : (head : Head) (epoch : ℕ) (images : List (List ℕ)) (homes journal : ℕ → List ℕ) (stage : Stage) (old new : Option DiskState) → CanCommit head epoch images → new ≡ old → GoesOn head epoch images homes journal stage stage old new
-goes_on-none head epoch images homes journal stage old new can same d told is =
-    (d, same ∙ told, is, EachMoment-none (AfterCrash (ShowsAt head epoch images homes stage)) d (shown head epoch images homes journal stage d can is))
+pub goes_on-none : (head : Head) (epoch : ℕ) (images : List (List ℕ)) (homes journal : ℕ → List ℕ) (stage : Stage) (old new : Option DiskState) → CanGoOn head epoch images stage → new ≡ old → GoesOn head epoch images homes journal stage stage old new
+goes_on-none head epoch images homes journal stage old new can same d told is = record {
+  next = d;
+  told = same ∙ told;
+  known = is;
+  moments = EachMoment-none (Known head epoch images homes journal stage stage) d (inl is);
+  crashes = EachMoment-none (Shown head epoch images homes stage) d (AfterCrash-ShowsAt head epoch images homes journal stage d can is);
+}
 
 -- after an error the stage stands
-pub goes_on-gone : (head : Head) (epoch : ℕ) (images : List (List ℕ)) (homes journal : ℕ → List ℕ) (stage : Stage) (old new : Option DiskState) (e : DiskError) → CanCommit head epoch images → is_rested stage ≡ false → Makes (due_call head epoch images stage) old new (gone {T = Unit {0}} e) → GoesOn head epoch images homes journal stage stage old new
+pub goes_on-gone : (head : Head) (epoch : ℕ) (images : List (List ℕ)) (homes journal : ℕ → List ℕ) (stage : Stage) (old new : Option DiskState) (e : DiskError) → CanGoOn head epoch images stage → is_rested stage ≡ false → Makes (due_call head epoch images stage) old new (gone {T = Unit {0}} e) → GoesOn head epoch images homes journal stage stage old new
 goes_on-gone head epoch images homes journal stage old new Failed can going makes = goes_on-failed head epoch images homes journal stage old new can going (λ d told. makes.failed d told refl)
 goes_on-gone head epoch images homes journal stage old new Memory can going makes = goes_on-none head epoch images homes journal stage old new can (makes.memory refl)

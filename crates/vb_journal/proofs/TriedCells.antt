@@ -5,10 +5,10 @@ use Rattle.std.proofs.lemmas.Bool.{cond-true, cond-false, eq-eqb, ne_eqb}
 use Rattle.std.proofs.lemmas.List.{length-replicate}
 use Rattle.vb_block.specs.Pages.{IsSealed}
 use Rattle.vb_disk.specs.declared.cell.Cell.{Cell}
-use Rattle.vb_disk.specs.Cells.{candidate_at, read_of, synced_cell, written_cell}
+use Rattle.vb_disk.specs.Cells.{candidate_at, candidates, read_of, synced_cell, written_cell}
 use Rattle.vb_disk.specs.Crashes.{CellMayCrashTo}
 use Rattle.vb_disk.specs.States.{DiskState, written}
-use Rattle.vb_journal.specs.Progress.{Progress, Fixed, Trying, Tried, Has, tried_cell}
+use Rattle.vb_journal.specs.Progress.{Progress, Fixed, Trying, Tried, Has}
 
 replicate-snoc : (n : ℕ) (x : List ℕ) → replicate n x ++ x ∷ [] ≡ replicate (suc n) x
 replicate-snoc zero x = refl
@@ -17,7 +17,7 @@ replicate-snoc (suc n) x = ap (λ (l : List (List ℕ)). x ∷ l) (replicate-sno
 -- a write of the new page
 pub Has-written : (old new : List ℕ) (cell : Cell) → Has (Trying old new) cell → Has (Tried old new) (written_cell cell new)
 Has-written old new cell has =
-    (has.0, ap (λ (c : Cell). written_cell c new) has.1 ∙ ap (λ (l : List (List ℕ)). let c : Cell = record { first = old; later = l; hurt = None } in c) (replicate-snoc has.0 new))
+    (has.0, ap (λ (l : List (List ℕ)). l ++ new ∷ []) has.1 ∙ ap (λ (l : List (List ℕ)). old ∷ l) (replicate-snoc has.0 new))
 
 -- what was written was perhaps written, and what stands was perhaps written no time
 pub Trying-from_Tried : (old new : List ℕ) (cell : Cell) → Has (Tried old new) cell → Has (Trying old new) cell
@@ -30,15 +30,28 @@ newest-replicate : (n : ℕ) (x d : List ℕ) → get_or (replicate (suc n) x) n
 newest-replicate zero x d = refl
 newest-replicate (suc n) x d = newest-replicate n x d
 
+-- the newest of some candidates
+newest_of : (cell : Cell) (first : List ℕ) (later : List (List ℕ)) → candidates cell ≡ first ∷ later → candidate_at cell (length cell.later) ≡ get_or (first ∷ later) (length later) first
+newest_of cell first later is =
+    let front : cell.first ≡ first = cc is in
+    let rest : cell.later ≡ later = cc is in
+    ap (λ (p : List ℕ). get_or (p ∷ cell.later) (length cell.later) p) front ∙ ap (λ (l : List (List ℕ)). get_or (first ∷ l) (length l) first) rest
+
 -- a sync leaves the new page, and what stands alone
 pub Fixed-synced : (old new : List ℕ) (cell : Cell) → Has (Tried old new) cell → Has (Fixed new) (synced_cell cell)
 Fixed-synced old new cell has =
     let long : length (replicate (suc has.0) new) ≡ suc has.0 = length-replicate {A = List ℕ} (suc has.0) new in
     let newest : get_or (old ∷ replicate (suc has.0) new) (length (replicate (suc has.0) new)) old ≡ new = ap (λ (n : ℕ). get_or (old ∷ replicate (suc has.0) new) n old) long ∙ newest-replicate has.0 new old in
-    ap synced_cell has.1 ∙ ap (λ (p : List ℕ). let c : Cell = record { first = p; later = []; hurt = None } in c) newest
+    ap (λ (p : List ℕ). p ∷ []) (newest_of cell old (replicate (suc has.0) new) has.1 ∙ newest)
 
 pub Fixed-stays : (page : List ℕ) (cell : Cell) → Has (Fixed page) cell → Has (Fixed page) (synced_cell cell)
-Fixed-stays page cell has = ap synced_cell has
+Fixed-stays page cell has = ap (λ (p : List ℕ). p ∷ []) (newest_of cell page [] has)
+
+-- the same candidates have come as far
+pub Has-same : (p : Progress) (old new : Cell) → candidates new ≡ candidates old → Has p old → Has p new
+Has-same (Fixed page) old new same has = same ∙ has
+Has-same (Trying before after) old new same has = (has.0, same ∙ has.1)
+Has-same (Tried before after) old new same has = (has.0, same ∙ has.1)
 
 -- ---- places
 
@@ -94,28 +107,23 @@ picked_of old new times page has =
 alone_of : (page first : List ℕ) → Contains (page ∷ []) first → first ≡ page
 alone_of page first has = elim (tried_at page page 0 has.0 first has.1) [ inl is ↦ sym has.2 ∙ is | inr is ↦ sym has.2 ∙ is ]
 
-tried_crash : (old new : List ℕ) (times : ℕ) (cell : Cell) → CellMayCrashTo (tried_cell old new times) cell → MayRead old new (read_of cell)
-tried_crash old new times cell crash = elim crash.hurt [
-  | inl as_before ↦
-      let picked : (cell.first ≡ old) ⊎ (cell.first ≡ new) = picked_of old new times cell.first crash.picked in
-      either_read old new (read_of cell) (let P : List ℕ → Type 0 = λ p. (p ≡ old) ⊎ (p ≡ new) in subst P (sym (read_alone cell crash.alone as_before)) picked)
-  | inr torn ↦ inr (inr (λ sealed. torn.miss.unsealed (subst IsSealed (read_torn cell torn.bytes torn.reads) sealed)))
-]
-
-fixed_crash : (page : List ℕ) (cell : Cell) → CellMayCrashTo (tried_cell page page 0) cell → read_of cell ≡ page
-fixed_crash page cell crash = elim crash.hurt [
-  | inl as_before ↦ read_alone cell crash.alone as_before ∙ alone_of page cell.first crash.picked
-  | inr torn ↦ absurd (omega (arith, torn.several))
-]
-
 -- what a place may read as that changes
-pub MayRead-Trying : (old new : List ℕ) (before after : Cell) → Has (Trying old new) before → CellMayCrashTo before after → MayRead old new (read_of after)
-MayRead-Trying old new before after has crash =
-    let P : Cell → Type 0 = λ c. CellMayCrashTo c after in
-    tried_crash old new has.0 after (subst P has.1 crash)
+pub MayRead-Trying : (old new : List ℕ) (before after : Cell) → before.hurt ≡ None → Has (Trying old new) before → CellMayCrashTo before after → MayRead old new (read_of after)
+MayRead-Trying old new before after whole has crash = elim crash.hurt [
+  | inl as_before ↦
+      let from : Contains (old ∷ replicate has.0 new) after.first = subst (λ (l : List (List ℕ)). Contains l after.first) has.1 crash.picked in
+      let picked : (after.first ≡ old) ⊎ (after.first ≡ new) = picked_of old new has.0 after.first from in
+      either_read old new (read_of after) (let P : List ℕ → Type 0 = λ p. (p ≡ old) ⊎ (p ≡ new) in subst P (sym (read_alone after crash.alone (as_before ∙ whole))) picked)
+  | inr torn ↦ inr (inr (λ sealed. torn.miss.unsealed (subst IsSealed (read_torn after torn.bytes torn.reads) sealed)))
+]
+
+-- a place that stands has one candidate, so that a crash leaves it
+several_of : (page : List ℕ) (cell : Cell) → Has (Fixed page) cell → length cell.later ≡ 0
+several_of page cell has = let none : cell.later ≡ [] = cc has in ap length none
 
 -- a place that stands reads as before
-pub read-Fixed : (page : List ℕ) (before after : Cell) → Has (Fixed page) before → CellMayCrashTo before after → read_of after ≡ page
-read-Fixed page before after has crash =
-    let P : Cell → Type 0 = λ c. CellMayCrashTo c after in
-    fixed_crash page after (subst P has crash)
+pub read-Fixed : (page : List ℕ) (before after : Cell) → before.hurt ≡ None → Has (Fixed page) before → CellMayCrashTo before after → read_of after ≡ page
+read-Fixed page before after whole has crash = elim crash.hurt [
+  | inl as_before ↦ read_alone after crash.alone (as_before ∙ whole) ∙ alone_of page after.first (subst (λ (l : List (List ℕ)). Contains l after.first) has crash.picked)
+  | inr torn ↦ absurd (omega (arith, torn.several, several_of page before has))
+]

@@ -30,6 +30,26 @@ opened_head head epoch images = record head { sequence = head.sequence + 1; epoc
 abbrev pub closed_head : Head → ℕ → Head
 closed_head head epoch = record head { sequence = head.sequence + 2; epoch = epoch; state = Closed }
 
+-- both heads that a commit writes are in their ranges, and its images are images. Nothing is asked of the head from
+-- before it, so that it may go on where the heads that count the journal in were found.
+pub record CanFinish (head : Head) (epoch : ℕ) (images : List (List ℕ)) : Type 0 where
+  pub opened : IsInRange (opened_head head epoch images)
+  pub closed : IsInRange (closed_head head epoch)
+  pub images_are : AreImages head.nodes images
+
+-- whether a stage lies before the second sync of the heads that count the journal in
+abbrev pub is_early : Stage → Bool
+is_early (Journal next) = true
+is_early (Opening turn) = true
+is_early (Homes next) = false
+is_early (Closing turn) = false
+is_early Rested = false
+
+-- a commit can go on from a stage
+pub record CanGoOn (head : Head) (epoch : ℕ) (images : List (List ℕ)) (stage : Stage) : Type 0 where
+  pub finish : CanFinish head epoch images
+  pub early : is_early stage ≡ true → CanCommit head epoch images
+
 -- the images one after the other from a place of the journal on
 abbrev pub journal_calls : ℕ → List (List ℕ) → List DiskCall
 journal_calls place [] = []

@@ -1,6 +1,7 @@
 -- How far the places of a store have come while a commit goes on.
-use Rattle.std.specs.Prelude.{◌≡◌, ◌≢◌, ◌⊎◌, ℕ, suc, ◌+◌, ◌<◌, ◌≤◌, nat_lt, if◌then◌else◌, List, [], length, replicate, Option, Some, None}
+use Rattle.std.specs.Prelude.{◌≡◌, ◌≢◌, ◌⊎◌, ℕ, suc, ◌+◌, ◌*◌, ◌<◌, ◌≤◌, nat_lt, if◌then◌else◌, List, [], ◌∷◌, length, replicate, Option, Some, None}
 use Rattle.vb_disk.specs.declared.cell.Cell.{Cell}
+use Rattle.vb_disk.specs.Cells.{candidates}
 use Rattle.vb_disk.specs.Crashes.{MayCrashTo}
 use Rattle.vb_disk.specs.Moments.{EachMoment}
 use Rattle.vb_disk.specs.States.{DiskState, read_at}
@@ -20,15 +21,12 @@ pub data Progress : Type 0 where
   Trying : (old new : List ℕ) → Progress
   Tried : (old new : List ℕ) → Progress
 
--- a whole place with the old page, and then the new one so many times
-abbrev pub tried_cell : List ℕ → List ℕ → ℕ → Cell
-tried_cell old new times = record { first = old; later = replicate times new; hurt = None }
-
--- a place has come so far. A write that failed may have been made, so that the new page stands there several times.
+-- a place has come so far by its candidates, whatever it reads as where it is hurt. A write that failed may have been
+-- made, so that the new page stands there several times.
 abbrev pub Has : Progress → Cell → Type 0
-Has (Fixed page) cell = cell ≡ record { first = page; later = []; hurt = None }
-Has (Trying old new) cell = (times : ℕ) × (cell ≡ tried_cell old new times)
-Has (Tried old new) cell = (times : ℕ) × (cell ≡ tried_cell old new (suc times))
+Has (Fixed page) cell = candidates cell ≡ page ∷ []
+Has (Trying old new) cell = (times : ℕ) × (candidates cell ≡ old ∷ replicate times new)
+Has (Tried old new) cell = (times : ℕ) × (candidates cell ≡ old ∷ replicate (suc times) new)
 
 -- the first copy of a head in a turn from the old to the new one
 abbrev pub first_in : List ℕ → List ℕ → Turn → Progress
@@ -94,7 +92,7 @@ pub record IsCommitting (head : Head) (epoch : ℕ) (images : List (List ℕ)) (
   pub beyond : (i : ℕ) → length images ≤ i → i < head.nodes → Has (Fixed (journal i)) (d.cells (2 + head.nodes + i))
   pub others : (slot : ℕ) → slot < head.nodes → IsUnnamed images slot → Has (Fixed (homes slot)) (d.cells (2 + slot))
 
--- a store at rest: each place is whole and has one candidate
+-- a store at rest: each place has one candidate
 pub record IsAtRest (head : Head) (homes journal : ℕ → List ℕ) (d : DiskState) : Type 0 where
   pub id : length head.id ≡ 16
   pub first : Has (Fixed (head_page head)) (d.cells 0)
@@ -123,10 +121,26 @@ ShowsAt head epoch images homes Rested reads = Shows reads head epoch (new_image
 abbrev pub AfterCrash : ((ℕ → List ℕ) → Type 0) → DiskState → Type 0
 AfterCrash P d = (new : DiskState) → MayCrashTo d new → P (λ place. read_at new place)
 
--- a step leads from a disk that is known at its stage to one that is known at the stage after it, and at each moment
--- within it each crash shows what the first stage shows
+-- no place below this one is hurt
+abbrev pub AreUnhurt : ℕ → DiskState → Type 0
+AreUnhurt end d = (place : ℕ) → place < end → (d.cells place).hurt ≡ None
+
+-- each place has the same candidates on both disks, as before and after damage
+abbrev pub HaveSameCandidates : DiskState → DiskState → Type 0
+HaveSameCandidates old new = (place : ℕ) → candidates (new.cells place) ≡ candidates (old.cells place)
+
+-- what a step leaves of a disk that is known at its stage: one that is known at the stage after it. Each moment
+-- within it is known at the one stage or the other, and where no place was hurt by then each crash shows what the
+-- first stage shows.
+pub record GoesTo (head : Head) (epoch : ℕ) (images : List (List ℕ)) (homes journal : ℕ → List ℕ) (before after : Stage) (d : DiskState) (new : Option DiskState) : Type 0 where
+  pub next : DiskState
+  pub told : new ≡ Some next
+  pub known : IsCommitting head epoch images homes journal after next
+  pub moments : EachMoment (λ m. IsCommitting head epoch images homes journal before m ⊎ IsCommitting head epoch images homes journal after m) d next
+  pub crashes : EachMoment (λ m. AreUnhurt (2 + 2 * head.nodes) m → AfterCrash (ShowsAt head epoch images homes before) m) d next
+
+-- so does each step of a disk that is known at its stage
 abbrev pub GoesOn : Head → ℕ → List (List ℕ) → (ℕ → List ℕ) → (ℕ → List ℕ) → Stage → Stage → Option DiskState → Option DiskState → Type 0
 GoesOn head epoch images homes journal before after old new =
     (d : DiskState) → old ≡ Some d → IsCommitting head epoch images homes journal before d
-    → (next : DiskState) × (new ≡ Some next) × IsCommitting head epoch images homes journal after next
-    × EachMoment (AfterCrash (ShowsAt head epoch images homes before)) d next
+    → GoesTo head epoch images homes journal before after d new

@@ -4,7 +4,7 @@ ghost use Rattle.vb_disk.specs.Causes.{HasCause};
 ghost use Rattle.vb_disk.specs.States.{Write};
 ghost use Rattle.vb_head.specs.Heads.{IsInRange, head_page};
 ghost use Rattle.vb_journal.specs.Calls.{turn_after, turn_call, Makes, MakesFirst};
-ghost use Rattle.vb_journal.specs.Plans.{answer_at, answer_to, closed_head, due_call, is_rested, next_stage, opened_head, position_of, CanCommit};
+ghost use Rattle.vb_journal.specs.Plans.{answer_at, answer_to, closed_head, due_call, is_rested, next_stage, opened_head, position_of, CanCommit, CanFinish, CanGoOn};
 
 use crate::{CommitStep, Head, Stage, State, Turn, write_head};
 use std::alloc::Global;
@@ -23,7 +23,7 @@ pub struct Commit {
     epoch: u64,
     images: Images,
     stage: Stage,
-    ghost can: { CanCommit head epoch images },
+    ghost can: { CanGoOn head epoch images stage },
     ghost placed: { position_of stage ≤ length images },
 }
 
@@ -31,6 +31,7 @@ impl Commit {
     ghost use Rattle.vb_journal.specs.Commits.{calls_left, epoch_of, head_of, images_of, stage_of};
     ghost use Rattle.vb_journal.specs.Progress.{GoesOn, IsAtRest, IsCommitting};
     ghost use Rattle.vb_disk.specs.States.{DiskState};
+    ghost use Rattle.vb_journal.specs.Images.{image_at};
 
     /// A commit of these images at this epoch, over a store with this head.
     pub fn start(alloc: Global, head: Head, epoch: u64, images: Images) -> Commit
@@ -53,6 +54,29 @@ impl Commit {
         }
     }
 
+    /// A commit whose images stand in the journal, counted in by both heads. It goes on with their homes.
+    pub(crate) fn replay(alloc: Global, head: Head, epoch: u64, images: Images) -> Commit
+        requires { CanFinish head epoch images }
+        ensures head { head_of result ≡ head }
+        ensures epoch { epoch_of result ≡ epoch }
+        ensures images { images_of result ≡ images }
+        ensures stage { stage_of result ≡ Stage.Homes 0 }
+        ensures calls { length (calls_left result) ≡ length images + 5 }
+
+        // Over a store at rest with this opened head and these images in the journal, it is known at its stage.
+        ensures known { (homes journal : ℕ → List ℕ) (d : DiskState) → IsAtRest (opened_head head epoch images) homes journal d
+            → ((i : ℕ) → i < length images → journal i ≡ image_at images i)
+            → IsCommitting head epoch images homes journal (stage_of result) d }
+    {
+        Commit {
+            alloc,
+            head,
+            epoch,
+            images,
+            stage: Stage::Homes { next: 0 },
+        }
+    }
+
     /// Makes the next call of the disk. After an error the next step makes the same call again.
     pub fn step<D: Disk>(&mut self, disk: &mut D) -> Result<CommitStep, DiskError>
         requires { (head_of self.old).blocks ≤ D.seen disk.old }
@@ -64,8 +88,8 @@ impl Commit {
         ensures seen { D.seen disk.new ≡ D.seen disk.old }
         ensures cause { HasCause DiskError.Failed (D.faults disk.old) (D.faults disk.new) result }
 
-        // Each crash within the step shows the images from before the commit or the new ones, and from Committed on
-        // the new ones.
+        // Each moment within the step is known at the stage before or after it. Where no place is hurt by then, each
+        // crash shows the images from before the commit or the new ones, and from Committed on the new ones.
         ensures crash { (homes journal : ℕ → List ℕ) → GoesOn (head_of self.old) (epoch_of self.old) (images_of self.old) homes journal
             (stage_of self.old) (stage_of self.new) (D.told disk.old) (D.told disk.new) }
     {

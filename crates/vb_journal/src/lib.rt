@@ -8,7 +8,7 @@ mod recover_error;
 
 pub use commit::{Commit, Images};
 pub use commit_stage::{CommitStep, Stage, Turn};
-pub use crashes::{a_rested_commit_is_at_rest, each_crash_shows};
+pub use crashes::{a_rested_commit_is_at_rest, damage_leaves_a_commit, each_crash_shows};
 pub use recover_error::RecoverError;
 pub use vb_head::{Head, HeadRead, State, read_head, write_head};
 

@@ -6,14 +6,14 @@ pub overflow_add-get_u32 : goal.overflow_add-get_u32
 overflow_add-get_u32 g c =
     let commit = c.args.self.now in
     let left : c.args.next < length c.args.self.now.images = omega arith in
-    let home = home_within commit.head commit.epoch commit.images c.args.next c.get_u32.result commit.can left (slot_read commit.images c.args.next c.get-image.result.now c.get_u32.result c.get-image.ensures c.get_u32.ensures) in
+    let home = home_within commit.head commit.epoch commit.images c.args.next c.get_u32.result commit.can.finish left (slot_read commit.images c.args.next c.get-image.result.now c.get_u32.result c.get-image.ensures c.get_u32.ensures) in
     omega arith
 
 pub write-requires : goal.write-requires
 write-requires g c =
     let commit = c.args.self.now in
     let left : c.args.next < length c.args.self.now.images = omega arith in
-    let home = home_within commit.head commit.epoch commit.images c.args.next c.get_u32.result commit.can left (slot_read commit.images c.args.next c.get-image.result.now c.get_u32.result c.get-image.ensures c.get_u32.ensures) in
+    let home = home_within commit.head commit.epoch commit.images c.args.next c.get_u32.result commit.can.finish left (slot_read commit.images c.args.next c.get-image.result.now c.get_u32.result c.get-image.ensures c.get_u32.ensures) in
     omega (arith, c.requires)
 
 pub returns-then-next-len-clause-makes : goal.returns-then-next-len-clause-makes
