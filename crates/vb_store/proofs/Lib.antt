@@ -1,0 +1,4 @@
+pub mod Chains
+pub mod CrashesOfClear
+pub mod SameJournals
+pub mod SameStores

@@ -1,0 +1,5 @@
+pub mod Clear
+pub mod Expected
+pub mod Metadata
+pub mod Recovered
+pub mod Sameness
