@@ -1,4 +1,7 @@
+pub mod CallsMade
 pub mod Chains
 pub mod CrashesOfClear
+pub mod EmptyNodes
+pub mod Homes
 pub mod SameJournals
 pub mod SameStores

@@ -1,0 +1,70 @@
+// A disk in memory that is made a store.
+ghost use Rattle.vb_store.specs.Formats.{CanFormat};
+
+use super::*;
+use std::alloc::Global;
+use std::test::Fail;
+use vb_block::{FolderId, Page};
+use vb_disk::{Disk, DiskError, MemoryDisk};
+use vb_head::{Head, HeadRead, State, read_head};
+
+// The folder of the tests.
+fn folder() -> FolderId {
+    FolderId::of([7; 16])
+}
+
+// Makes a disk a store of 38 places and 16 nodes.
+fn format_small(alloc: Global, disk: &mut MemoryDisk) -> Result<(), FormatError> {
+    format(alloc, disk, FolderId::of([7; 16]), 38, 16)
+}
+
+// What a copy of the head reads as.
+fn head_at<D: Disk>(alloc: Global, disk: &mut D, place: u32) -> Result<HeadRead, DiskError> {
+    let mut page = Page::zero(alloc)?;
+    if disk.size()? <= place {
+        return Err(DiskError::Failed);
+    }
+    disk.read(place, &mut page)?;
+    Ok(read_head(&page))
+}
+
+#[test]
+fn a_new_disk_becomes_an_empty_store(rt: HostRuntime) -> Result<(), Fail> {
+    let alloc = rt.alloc();
+    let mut disk = MemoryDisk::new(alloc, 0);
+    assert_eq!(rt; format_small(alloc, &mut disk), Ok(()));
+    let head = Head {
+        id: folder(),
+        blocks: 38,
+        nodes: 16,
+        sequence: 2,
+        epoch: 0,
+        state: State::Closed,
+    };
+    assert_eq!(rt; disk.size()?, 38);
+    assert_eq!(rt; head_at(alloc, &mut disk, 0)?, HeadRead::Good(head));
+    assert_eq!(rt; head_at(alloc, &mut disk, 1)?, HeadRead::Good(head));
+    assert_eq!(rt;
+        format_small(alloc, &mut disk),
+        Err(FormatError::Formatted { place: 0 })
+    );
+    Ok(())
+}
+
+#[test]
+fn a_failed_call_stops_a_format(rt: HostRuntime) -> Result<(), Fail> {
+    let alloc = rt.alloc();
+    let mut disk = MemoryDisk::new(alloc, 0);
+    disk.fail_call(20, false)?;
+    assert_eq!(rt; format_small(alloc, &mut disk), Err(FormatError::DiskFault));
+    let is_rebuilding = matches!(
+        head_at(alloc, &mut disk, 1)?,
+        HeadRead::Good(Head {
+            state: State::Rebuilding,
+            ..
+        })
+    );
+    assert!(rt; is_rebuilding);
+    assert_eq!(rt; format_small(alloc, &mut disk), Ok(()));
+    Ok(())
+}
