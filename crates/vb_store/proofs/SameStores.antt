@@ -32,7 +32,8 @@ use Rattle.vb_nodes.specs.declared.errors.TableError.TheVariants.{Wrong as Wrong
 use Rattle.vb_nodes.specs.Claiming.{ClaimsState, claim_answer, with_claim}
 use Rattle.vb_tree.specs.declared.tree.Limits.{Limits}
 use Rattle.vb_store.specs.Expected.{with_ref}
-use Rattle.vb_store.specs.Metadata.{Mapped, MapPage, Metadata, Standing, after_map, all_claimed_by, and_then, block_of, claimed_by, claims_or_refusal, head_place, image_fault, images_fault, index_or_refusal, journal_fault, known_below, limits_of, map_checked, mapped_from, maps_in, maps_left, maps_of, metadata_from, metadata_of, no_claims, node_checked, node_or_refusal, nodes_left, refuse, unless, with_ref_at, with_refs_at}
+use Rattle.vb_store.specs.Metadata.{Mapped, Metadata, Standing, after_claim, after_page, all_claimed_by, and_then, block_of, claimed_by, claims_or_refusal, head_place, image_fault, images_fault, index_or_refusal, journal_fault, known_below, limits_of, map_checked, mapped_from, maps_in, maps_left, maps_of, metadata_from, metadata_of, no_claims, node_checked, node_or_refusal, nodes_left, refuse, unless, with_ref_at, with_refs_at}
+use Rattle.vb_store.specs.declared.map_page.MapPage.{MapPage}
 use Rattle.vb_store.specs.Sameness.{IsSameStore}
 use Rattle.vb_store.proofs.SameJournals.{IsNode, images_fault-none, nodes_of_images, or_refusal-none, pages_same}
 use Rattle.vb_store.proofs.Chains.{and_then-ok, refuse-ok, unless-ok}
@@ -134,21 +135,22 @@ claimed-moved : (block there : ℕ) (claims : ClaimsState) (r : Result (Unit {0}
 claimed-moved block there claims (Ok done) all is = is
 claimed-moved block there claims (Err why) all is = absurd (cc is)
 
-after_map-moved : (block there : ℕ) (map : MapPage) (page : List ℕ) (known end : Mapped) → after_map block map page known ≡ Ok end → after_map there map page known ≡ Ok end
-after_map-moved block there map page known end =
-    let rest : ClaimsState → Result Mapped RecoverError = λ claims. and_then (map_checked map page) (λ refs.
-    and_then (all_claimed_by map.reference.place claims refs) (λ all. Ok (record { slots = with_refs_at known.slots map.slot map.first refs; claims = all }))) in
-    and_then-same (claimed_by block known.claims map.reference.place) (claimed_by there known.claims map.reference.place) rest rest end
-    (λ claims. claimed-moved block there (with_claim known.claims map.reference.place) (claim_answer known.claims map.reference.place) claims) (λ claims same. same)
+after_claim-moved : (block there : ℕ) (m : MapPage) (known end : Mapped) → after_claim block m known ≡ Ok end → after_claim there m known ≡ Ok end
+after_claim-moved block there m known end =
+    let with_claims : ClaimsState → Result Mapped RecoverError = λ claims. Ok (record known { claims = claims }) in
+    and_then-same (claimed_by block known.claims m.reference.place) (claimed_by there known.claims m.reference.place) with_claims with_claims end
+    (λ claims. claimed-moved block there (with_claim known.claims m.reference.place) (claim_answer known.claims m.reference.place) claims) (λ claims same. same)
 
 maps_left-same : (old new : ℕ → List ℕ) (places others : ℕ → ℕ) (maps : List MapPage) (known end : Mapped) → All (λ map. new map.reference.place ≡ old map.reference.place) maps → maps_left old places maps known ≡ Ok end → maps_left new others maps known ≡ Ok end
 maps_left-same old new places others [] known end same = λ is. is
-maps_left-same old new places others (map ∷ maps) known end same =
-    let Same : MapPage → Type 0 = λ m. new m.reference.place ≡ old m.reference.place in
-    and_then-same (after_map (places map.slot) map (old map.reference.place) known) (after_map (others map.slot) map (new map.reference.place) known)
-    (maps_left old places maps) (maps_left new others maps) end
-    (λ next was. ap (λ (page : List ℕ). after_map (others map.slot) map page known) (All-head Same map maps same) ∙ after_map-moved (places map.slot) (others map.slot) map (old map.reference.place) known next was)
-    (λ next. maps_left-same old new places others maps next end (All-tail Same map maps same))
+maps_left-same old new places others (m ∷ ms) known end same =
+    let Same : MapPage → Type 0 = λ n. new n.reference.place ≡ old n.reference.place in
+    and_then-same (after_claim (places m.slot) m known) (after_claim (others m.slot) m known)
+    (λ claimed. and_then (after_page m (old m.reference.place) claimed) (maps_left old places ms)) (λ claimed. and_then (after_page m (new m.reference.place) claimed) (maps_left new others ms)) end
+    (λ claimed. after_claim-moved (places m.slot) (others m.slot) m known claimed)
+    (λ claimed. and_then-same (after_page m (old m.reference.place) claimed) (after_page m (new m.reference.place) claimed) (maps_left old places ms) (maps_left new others ms) end
+        (λ next was. ap (λ (page : List ℕ). after_page m page claimed) (All-head Same m ms same) ∙ was)
+        (λ next. maps_left-same old new places others ms next end (All-tail Same m ms same)))
 
 -- references of pages change no node
 maps_of-with_ref : (page : ℕ) (r : Ref) (o : Option Held) → maps_of (option_map (with_ref page r) o) ≡ maps_of o
@@ -167,21 +169,26 @@ maps_in-with_refs_at (r ∷ rs) slots slot first =
     maps_in-with_refs_at rs (with_ref_at slots slot first r) slot (first + 1)
     ∙ maps_in-set slots slot (option_map (with_ref first r) (held_at slots slot)) (maps_of-with_ref first r (held_at slots slot))
 
-after_map-nodes : (block : ℕ) (map : MapPage) (page : List ℕ) (known end : Mapped) → after_map block map page known ≡ Ok end → maps_in end.slots ≡ maps_in known.slots
-after_map-nodes block map page known end is =
-    let last : List Ref → ClaimsState → Result Mapped RecoverError = λ refs all. Ok (record { slots = with_refs_at known.slots map.slot map.first refs; claims = all }) in
-    let rest : ClaimsState → List Ref → Result Mapped RecoverError = λ claims refs. and_then (all_claimed_by map.reference.place claims refs) (last refs) in
-    let one = and_then-ok (claimed_by block known.claims map.reference.place) (λ claims. and_then (map_checked map page) (rest claims)) end is in
-    let two = and_then-ok (map_checked map page) (rest one.value) end one.then in
-    let three = and_then-ok (all_claimed_by map.reference.place one.value two.value) (last two.value) end two.then in
-    let made : with_refs_at known.slots map.slot map.first two.value ≡ end.slots = cc three.then in
-    ap maps_in (sym made) ∙ maps_in-with_refs_at two.value known.slots map.slot map.first
+after_claim-nodes : (block : ℕ) (m : MapPage) (known end : Mapped) → after_claim block m known ≡ Ok end → maps_in end.slots ≡ maps_in known.slots
+after_claim-nodes block m known end is =
+    let one = and_then-ok (claimed_by block known.claims m.reference.place) (λ claims. Ok (record known { claims = claims })) end is in
+    let made : (let next : Mapped = record known { claims = one.value } in next ≡ end) = cc one.then in
+    ap (λ (k : Mapped). maps_in k.slots) (sym made)
+
+after_page-nodes : (m : MapPage) (page : List ℕ) (known end : Mapped) → after_page m page known ≡ Ok end → maps_in end.slots ≡ maps_in known.slots
+after_page-nodes m page known end is =
+    let last : List Ref → ClaimsState → Result Mapped RecoverError = λ refs all. Ok (record { slots = with_refs_at known.slots m.slot m.first refs; claims = all }) in
+    let one = and_then-ok (map_checked m page) (λ refs. and_then (all_claimed_by m.reference.place known.claims refs) (last refs)) end is in
+    let two = and_then-ok (all_claimed_by m.reference.place known.claims one.value) (last one.value) end one.then in
+    let made : with_refs_at known.slots m.slot m.first one.value ≡ end.slots = cc two.then in
+    ap maps_in (sym made) ∙ maps_in-with_refs_at one.value known.slots m.slot m.first
 
 pub maps_left-nodes : (reads : ℕ → List ℕ) (places : ℕ → ℕ) (maps : List MapPage) (known end : Mapped) → maps_left reads places maps known ≡ Ok end → maps_in end.slots ≡ maps_in known.slots
 maps_left-nodes reads places [] known end is = let same : known ≡ end = cc is in ap (λ (m : Mapped). maps_in m.slots) (sym same)
-maps_left-nodes reads places (map ∷ maps) known end is =
-    let first = and_then-ok (after_map (places map.slot) map (reads map.reference.place) known) (maps_left reads places maps) end is in
-    maps_left-nodes reads places maps first.value end first.then ∙ after_map-nodes (places map.slot) map (reads map.reference.place) known first.value first.is
+maps_left-nodes reads places (m ∷ ms) known end is =
+    let one = and_then-ok (after_claim (places m.slot) m known) (λ claimed. and_then (after_page m (reads m.reference.place) claimed) (maps_left reads places ms)) end is in
+    let two = and_then-ok (after_page m (reads m.reference.place) one.value) (maps_left reads places ms) end one.then in
+    maps_left-nodes reads places ms two.value end two.then ∙ after_page-nodes m (reads m.reference.place) one.value two.value two.is ∙ after_claim-nodes (places m.slot) m known one.value one.is
 
 -- ---- what is known below a head
 

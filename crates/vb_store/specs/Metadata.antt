@@ -1,5 +1,5 @@
 -- Metadata: what the blocks of a store say, read at once as tables, or the first thing that is wrong with them.
-use Rattle.std.specs.Prelude.{ℕ, zero, suc, ◌+◌, ◌-◌, ◌*◌, ◌/◌, min, ◌==◌, if◌then◌else◌, Bool, true, false, not, List, [], ◌∷◌, ◌++◌, length, replicate, slice_set, Option, Some, None, Result, Ok, Err}
+use Rattle.std.specs.Prelude.{ℕ, zero, suc, ◌+◌, ◌-◌, ◌*◌, ◌/◌, min, ◌==◌, if◌then◌else◌, Bool, true, false, not, List, [], ◌∷◌, ◌++◌, length, map, replicate, slice_set, Option, Some, None, Result, Ok, Err}
 use Rattle.std.specs.List.{flat_map}
 use Rattle.std.specs.Option.{option_map}
 use Rattle.std.specs.Result.{result_err}
@@ -32,6 +32,7 @@ use Rattle.vb_nodes.specs.declared.errors.TableError.{TableError}
 use Rattle.vb_nodes.specs.declared.errors.TableError.TheVariants.{Wrong as WrongNode, TooManyPages, Memory as NoMemoryForIndex}
 use Rattle.vb_nodes.specs.Claiming.{ClaimsState, claim_answer, with_claim}
 use Rattle.vb_nodes.specs.Holdings.{index_from}
+use Rattle.vb_store.specs.declared.map_page.MapPage.{MapPage}
 use Rattle.vb_store.specs.Expected.{with_ref}
 
 -- ---- one check after another
@@ -83,15 +84,23 @@ pub record Standing : Type 0 where
   pub place : ℕ
   pub page : List ℕ
 
--- the place of a slot's block, once images from this place on were put over its home
-abbrev pub place_over : List (List ℕ) → ℕ → ℕ → ℕ → ℕ
+-- the place of a slot's block, once images of these slots, which stand from a place on, were put over the homes
+abbrev pub place_over : List ℕ → ℕ → ℕ → ℕ → ℕ
 place_over [] place slot home = home
-place_over (image ∷ images) place slot home = place_over images (place + 1) slot (if slot_of image == slot then place else home)
+place_over (named ∷ slots) place slot home = place_over slots (place + 1) slot (if named == slot then place else home)
+
+-- so for a journal of these slots, in a store of so many nodes
+abbrev pub block_place : List ℕ → ℕ → ℕ → ℕ
+block_place slots nodes slot = place_over slots (2 + nodes) slot (2 + slot)
+
+-- the slots of the journal's images
+abbrev pub journal_slots : (ℕ → List ℕ) → Head → List ℕ
+journal_slots reads head = map slot_of (journal_of reads head)
 
 -- the block of a slot: what stands at its home, or the image of the journal that was put over it
 abbrev pub block_of : (ℕ → List ℕ) → Head → ℕ → Standing
 block_of reads head slot = record {
-  place = place_over (journal_of reads head) (journal_place head) slot (2 + slot);
+  place = block_place (journal_slots reads head) head.nodes slot;
   page = node_image reads head slot;
 }
 
@@ -123,23 +132,20 @@ index_or_refusal place places (Err NoMemoryForIndex) = Err Memory
 
 -- ---- the map pages, by slot of each file and by map page
 
--- a map page of a file: whose it is, the first of the file's pages that it names, how many it names, and its reference
-pub record MapPage : Type 0 where
-  pub slot : ℕ
-  pub first : ℕ
-  pub count : ℕ
-  pub reference : Ref
-
 -- the map pages of a slot from this one of its pages on, of which so many are left
 abbrev pub maps_from : ℕ → ℕ → ℕ → List Ref → List MapPage
 maps_from slot first left [] = []
 maps_from slot first left (r ∷ rs) =
     record { slot = slot; first = first; count = min left 113; reference = r } ∷ maps_from slot (first + 113) (left - 113) rs
 
+-- the map pages of a node
+abbrev pub maps_of_node : Node → List MapPage
+maps_of_node node = maps_from node.slot 0 (data_pages_of node.length) node.maps
+
 -- the map pages of what a slot holds
 abbrev pub maps_of : Option Held → List MapPage
 maps_of None = []
-maps_of (Some held) = maps_from held.node.slot 0 (data_pages_of held.node.length) held.node.maps
+maps_of (Some held) = maps_of_node held.node
 
 -- the map pages of all slots
 unfoldable pub maps_in : List (Option Held) → List MapPage
@@ -176,9 +182,9 @@ refs_or_refusal place (Err NoMemoryForMap) = Err Memory
 
 -- the references in a map page: it has its digest, and passes its check
 abbrev pub map_checked : MapPage → List ℕ → Result (List Ref) RecoverError
-map_checked map page =
-    refuse (not (bytes_eq map.reference.digest (sha256 page))) (Damaged map.reference.place map.reference.digest (sha256 page)) (
-    refs_or_refusal map.reference.place (map_read map.count page))
+map_checked m page =
+    refuse (not (bytes_eq m.reference.digest (sha256 page))) (Damaged m.reference.place m.reference.digest (sha256 page)) (
+    refs_or_refusal m.reference.place (map_read m.count page))
 
 -- the slots, with this reference of a page of a file
 abbrev pub with_ref_at : List (Option Held) → ℕ → ℕ → Ref → List (Option Held)
@@ -189,19 +195,24 @@ abbrev pub with_refs_at : List (Option Held) → ℕ → ℕ → List Ref → Li
 with_refs_at slots slot first [] = slots
 with_refs_at slots slot first (r ∷ rs) = with_refs_at (with_ref_at slots slot first r) slot (first + 1) rs
 
--- what is known after one map page more, which reads as this page, where the block of its node stands at this place
-abbrev pub after_map : ℕ → MapPage → List ℕ → Mapped → Result Mapped RecoverError
-after_map block map page known =
-    and_then (claimed_by block known.claims map.reference.place) (λ claims.
-    and_then (map_checked map page) (λ refs.
-    and_then (all_claimed_by map.reference.place claims refs) (λ all.
-    Ok (record { slots = with_refs_at known.slots map.slot map.first refs; claims = all }))))
+-- what is known once a map page, whose place is claimed, reads as this page
+abbrev pub after_page : MapPage → List ℕ → Mapped → Result Mapped RecoverError
+after_page m page known =
+    and_then (map_checked m page) (λ refs.
+    and_then (all_claimed_by m.reference.place known.claims refs) (λ all.
+    Ok (record { slots = with_refs_at known.slots m.slot m.first refs; claims = all })))
+
+-- what is known once its place is claimed, where the block of its node stands at this place
+abbrev pub after_claim : ℕ → MapPage → Mapped → Result Mapped RecoverError
+after_claim block m known =
+    and_then (claimed_by block known.claims m.reference.place) (λ claims. Ok (record known { claims = claims }))
 
 -- what is known after these map pages
 abbrev pub maps_left : (ℕ → List ℕ) → (ℕ → ℕ) → List MapPage → Mapped → Result Mapped RecoverError
 maps_left reads places [] known = Ok known
-maps_left reads places (map ∷ maps) known =
-    and_then (after_map (places map.slot) map (reads map.reference.place) known) (maps_left reads places maps)
+maps_left reads places (m ∷ ms) known =
+    and_then (after_claim (places m.slot) m known) (λ claimed.
+    and_then (after_page m (reads m.reference.place) claimed) (maps_left reads places ms))
 
 -- ---- the whole
 

@@ -4,6 +4,7 @@
 mod clear_disks;
 mod format_error;
 mod formatting;
+mod map_page;
 mod new_homes;
 mod same_stores;
 
