@@ -1,10 +1,13 @@
 pub mod Additions
 pub mod Beginnings
 pub mod ChildLaws
+pub mod Copying
 pub mod Growth
 pub mod Kept
+pub mod Leaving
 pub mod Newness
 pub mod Positions
+pub mod Resizing
 pub mod Shapes
 pub mod Shrinking
 pub mod Steps

@@ -1,3 +1,4 @@
+pub mod Changes
 pub mod Indexes
 pub mod Nodes
 pub mod Tables

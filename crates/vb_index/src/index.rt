@@ -1,18 +1,22 @@
 // The index: limits, and nodes with the references of their pages.
-ghost use Rattle.std.specs.Prelude.{◌≡◌, ◌++◌, ◌-◌, ◌<◌, true, replicate, length, slice_set, [], ◌∷◌, List, ℕ, Option, Some, None, IfOk, OnOk, OnErr};
+ghost use Rattle.std.specs.Prelude.{◌≡◌, ◌++◌, ◌-◌, ◌<◌, true, replicate, length, unwrap_or, slice_set, [], ◌∷◌, List, ℕ, Option, Some, None, IfOk, OnOk, OnErr};
 ghost use Rattle.std.specs.Option.{option_copied, option_map, option_or};
 ghost use Rattle.std.specs.Result.{result_err};
 ghost use Rattle.vb_tree.specs.declared.reply.Refusal.{Refusal};
 ghost use Rattle.vb_tree.specs.declared.tree.TreeEntry.{TreeEntry};
-ghost use Rattle.vb_tree.specs.Trees.{insert_entry, name_of, AreInLimits};
-ghost use Rattle.vb_tree.specs.Refusals.{refuse_new, refuse_missing};
+ghost use Rattle.vb_tree.specs.Trees.{insert_entry, with_bytes_at, without, parent_of, name_of, AreInLimits, IsTree};
+ghost use Rattle.vb_tree.specs.Refusals.{refuse_new, refuse_missing, refuse_unless_file, refuse_resize, refusal_of};
 ghost use Rattle.vb_index.specs.Nodes.{root_held, refs_at, held_at, holds_folder, child_of, slot_at, nodes_in, pages_in, IsHeld};
 ghost use Rattle.vb_index.specs.Indexes.{shape_of, shape_of_entry, HasShapeOf, IsAnswer, IsLeastFree, new_held};
+ghost use Rattle.vb_index.specs.Changes.{removal_of, resized, with_ref};
+ghost use Rattle.vb_index.specs.declared.held.Held.{Held};
 
 use crate::grow::{newly_held, place_for};
+use crate::shrink::leaving;
+use crate::sizes::resizable;
 use crate::table::Table;
 use crate::walk::slot_of;
-use crate::{Held, IndexError, Kind, Limits, Node, NodeKind, Path, Refs, Refusal};
+use crate::{Held, IndexError, Kind, Limits, Node, NodeKind, Path, Ref, Refs, Refusal};
 use std::alloc::{AllocError, Global};
 use std::marker::Model;
 
@@ -103,6 +107,7 @@ impl Index {
             (insert_entry (record { path = path.now; kind = kind; bytes = [] }) tree)) }
         ensures slot { IfOk result (λ slot. IsLeastFree self.old.nodes slot) }
         ensures nodes { IfOk result (λ slot. (folder : ℕ)
+            × (slot_at self.old.nodes (parent_of path.now) ≡ Some folder)
             × (self.new ≡ record self.old {
               nodes = slice_set self.old.nodes slot
                   (Some (new_held slot kind folder (name_of path.now)));
@@ -115,6 +120,68 @@ impl Index {
         let held = newly_held(alloc, slot, kind, folder, names)?;
         self.table.put(alloc, held)?;
         Ok(slot)
+    }
+
+    /// Removes a file, or a folder without entries, as the kind says. It answers the slot, which is free then.
+    pub fn detach(&mut self, path: &Path, kind: Kind) -> Result<u32, IndexError>
+        ensures answer { (tree : List TreeEntry) → HasShapeOf self.old.nodes tree
+            → IsAnswer (refusal_of self.old.limits tree (removal_of kind path.now)) result }
+        ensures tree { (tree : List TreeEntry) → IsTree tree → HasShapeOf self.old.nodes tree
+            → OnOk result (HasShapeOf self.new.nodes (without path.now tree)) }
+        ensures slot { IfOk result (λ slot. slot_at self.old.nodes path.now ≡ Some slot) }
+        ensures nodes { IfOk result (λ slot. self.new ≡ record self.old {
+          nodes = slice_set self.old.nodes slot None;
+        }) }
+        ensures err { OnErr result (self.new ≡ self.old) }
+    {
+        let slot = leaving(&self.table, path.parts(), kind)?;
+        self.table.take(slot)?;
+        Ok(slot)
+    }
+
+    /// Gives a file another length. Pages that it keeps keep their references, and a new page has the place 0
+    /// and a digest of zeros.
+    pub fn resize(&mut self, path: &Path, len: u64) -> Result<(), IndexError>
+        ensures answer { (tree : List TreeEntry) → HasShapeOf self.old.nodes tree
+            → IsAnswer (refuse_unless_file tree path.now
+            (refuse_resize self.old.limits tree path.now len)) result }
+        ensures tree { (tree : List TreeEntry) (bytes : List ℕ) → HasShapeOf self.old.nodes tree
+            → length bytes ≡ len
+            → OnOk result (HasShapeOf self.new.nodes (with_bytes_at path.now bytes tree)) }
+        ensures nodes { OnOk result ((slot : ℕ) × (held : Held)
+            × (slot_at self.old.nodes path.now ≡ Some slot)
+            × (held_at self.old.nodes slot ≡ Some held)
+            × (self.new ≡ record self.old {
+              nodes = slice_set self.old.nodes slot (Some (resized len held));
+            })) }
+        ensures err { OnErr result (self.new ≡ self.old) }
+    {
+        let slot = resizable(self.limits, &self.table, path.parts(), len)?;
+        self.table.resize(slot, len)?;
+        Ok(())
+    }
+
+    /// Replaces the reference of a file's page. It takes no memory.
+    pub fn set_ref(&mut self, slot: u32, page: u32, reference: Ref)
+        requires { page < length (unwrap_or (refs_at self.old.nodes slot) []) }
+        ensures tree { (tree : List TreeEntry) → HasShapeOf self.old.nodes tree
+            → HasShapeOf self.new.nodes tree }
+        ensures nodes { (held : Held) × (held_at self.old.nodes slot ≡ Some held)
+            × (self.new ≡ record self.old {
+              nodes = slice_set self.old.nodes slot (Some (with_ref page reference held));
+            }) }
+    {
+        self.table.set_ref(slot, page, reference);
+    }
+
+    /// An equal index.
+    pub fn copy(&self, alloc: Global) -> Result<Index, AllocError>
+        ensures { IfOk result (λ copied. copied ≡ self.now) }
+    {
+        Ok(Index {
+            limits: self.limits,
+            table: self.table.copy(alloc)?,
+        })
     }
 
     /// Puts a node with its references into its own slot.

@@ -2,11 +2,14 @@
 #![tactic(auto)]
 
 mod children;
+mod copies;
 mod errors;
 mod fresh;
 mod grow;
 mod held;
 mod index;
+mod shrink;
+mod sizes;
 mod table;
 mod walk;
 

@@ -1,17 +1,21 @@
 // The table of nodes: by slot, and by folder and name.
-ghost use Rattle.std.specs.Prelude.{◌≡◌, ◌-◌, ◌<◌, ◌≤◌, true, ◌∷◌, replicate, length, Some, None, IsSome, List, ℕ, IfOk, OnOk, OnErr, slice_set};
+ghost use Rattle.std.specs.Prelude.{◌≡◌, ◌-◌, ◌<◌, ◌≤◌, true, [], ◌∷◌, replicate, length, unwrap_or, Some, None, IsSome, IsTrue, ◌↔◌, List, ℕ, IfOk, OnOk, OnErr, slice_set};
 ghost use Rattle.std.specs.Option.{option_copied, option_and_then};
-ghost use Rattle.vb_index.specs.Nodes.{root_held, held_at, holds_folder, child_of, nodes_in, pages_in, IsHeld, IsTable};
+ghost use Rattle.vb_index.specs.Nodes.{root_held, held_at, holds_folder, refs_at, child_of, nodes_in, pages_in, IsHeld, IsTable};
 ghost use Rattle.vb_index.specs.Indexes.{IsLeastFree};
-ghost use Rattle.vb_tree.specs.Trees.{pages_of_length};
+ghost use Rattle.vb_index.specs.Changes.{resized, with_ref, IsBare};
+ghost use Rattle.vb_index.specs.declared.held.Held.{Held};
 ghost use Rattle.vb_tree.specs.Refusals.{longest_file};
 
 use crate::children::{Entries, add_child, drop_child};
+use crate::copies::{copy_nodes, entries_of};
 use crate::fresh::{fresh_children, fresh_nodes, fresh_slots};
-use crate::{Bytes, Held};
+use crate::sizes::{replace_in_slot, resize_slot};
+use crate::{Bytes, Held, NodeKind, Ref};
 use std::alloc::{AllocError, Global};
 use std::collections::BTreeSet;
 use std::marker::Model;
+use vb_tree::pages_of;
 
 /// Nodes by slot. Contracts see the list of what each slot holds.
 #[derive(Drop)]
@@ -76,6 +80,7 @@ impl Table {
     /// How many pages all files take.
     pub fn pages(&self) -> u64
         ensures pages { result ≡ pages_in self.now }
+        ensures table { IsTable self.now }
     {
         self.pages
     }
@@ -118,6 +123,65 @@ impl Table {
         }
     }
 
+    /// Whether a slot holds a folder.
+    pub fn is_folder(&self, slot: u32) -> bool
+        ensures folder { result ≡ holds_folder (held_at self.now slot) }
+        ensures table { IsTable self.now }
+    {
+        match held_in(&self.nodes, slot as usize) {
+            Some(held) => held.node.kind == NodeKind::Folder,
+            None => false,
+        }
+    }
+
+    /// Whether a slot has no entries.
+    pub fn is_bare(&self, slot: u32) -> bool
+        requires { slot < length self.now }
+        ensures { IsTrue result ↔ IsBare self.now slot }
+    {
+        self.children[slot as usize].is_empty()
+    }
+
+    /// Gives a file another length, and one reference for each page.
+    pub fn resize(&mut self, slot: u32, len: u64) -> Result<(), AllocError>
+        requires file { IsSome (refs_at self.old slot) }
+        requires short { len ≤ longest_file }
+        ensures ok { (held : Held) → held_at self.old slot ≡ Some held
+            → OnOk result (self.new ≡ slice_set self.old slot (Some (resized len held))) }
+        ensures err { OnErr result (self.new ≡ self.old) }
+    {
+        let Some(held) = held_in(&self.nodes, slot as usize) else {
+            return Ok(());
+        };
+        let pages = self.pages - pages_of(held.node.length) + pages_of(len);
+        resize_slot(&mut self.nodes[slot as usize], len)?;
+        self.pages = pages;
+        Ok(())
+    }
+
+    /// Replaces the reference of a file's page.
+    pub fn set_ref(&mut self, slot: u32, page: u32, reference: Ref)
+        requires { page < length (unwrap_or (refs_at self.old slot) []) }
+        ensures reference { (held : Held) → held_at self.old slot ≡ Some held
+            → self.new ≡ slice_set self.old slot (Some (with_ref page reference held)) }
+        ensures table { IsTable self.old }
+    {
+        replace_in_slot(&mut self.nodes[slot as usize], page as usize, reference);
+    }
+
+    /// An equal table.
+    pub fn copy(&self, alloc: Global) -> Result<Table, AllocError>
+        ensures { IfOk result (λ copied. copied ≡ self.now) }
+    {
+        Ok(Table {
+            nodes: copy_nodes(alloc, &self.nodes)?,
+            children: entries_of(alloc, &self.nodes)?,
+            free: self.free.clone()?,
+            count: self.count,
+            pages: self.pages,
+        })
+    }
+
     /// Puts a node at its own slot.
     #[tactic(auto, using(crate::proofs::Tables::totals))]
     pub fn put(&mut self, alloc: Global, held: Held) -> Result<(), AllocError>
@@ -146,7 +210,7 @@ impl Table {
     pub fn take(&mut self, slot: u32) -> Result<(), AllocError>
         requires above_root { 0 < slot }
         requires there { IsSome (held_at self.old slot) }
-        requires bare { (name : List ℕ) → child_of self.old slot name ≡ None }
+        requires bare { IsBare self.old slot }
         ensures ok { OnOk result (self.new ≡ slice_set self.old slot None) }
         ensures err { OnErr result (self.new ≡ self.old) }
     {
@@ -172,14 +236,4 @@ fn held_in(nodes: &Vec<Option<Held>>, slot: usize) -> Option<&Held>
         Some(Some(held)) => Some(held),
         _ => None,
     }
-}
-
-/// How many pages a file of this length takes, its map pages among them.
-fn pages_of(length: u64) -> u64
-    requires { length ≤ longest_file }
-    ensures pages { result ≡ pages_of_length length }
-    ensures few { result ≤ 10945 }
-{
-    let data_pages = length.div_ceil(4096);
-    data_pages + data_pages.div_ceil(113)
 }

@@ -30,7 +30,7 @@ invariant_of-self-2 c =
           ∙ ap (λ own. cond (c.args.held.node.parent == folder && same_name own name) (Some c.args.held.node.slot) (tree.get (slice_cmp nat_cmp) (get_or c.self.inside.children.items folder d) name)) (c.in_ok-name.ensures ∙ c.slice.ensures);
       free = c.remove.ensures.updates.0;
       count = refl;
-      pages = ap (λ n. c.self.inside.pages + n) c.pages_of.ensures.pages;
+      pages = ap (λ n. c.self.inside.pages + n) c.pages_of.ensures;
     })
 
 pub returns-clause-table : goal.returns-clause-table

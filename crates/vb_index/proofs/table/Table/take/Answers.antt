@@ -5,9 +5,6 @@ use Rattle.vb_index.proofs.Kept.{kept-empty}
 use Rattle.vb_index.proofs.Tables.{folder_in, held_in_table, among_totals}
 use Rattle.vb_index.proofs.table.Table.take.Goals as goal
 
-pub pages_of-requires : goal.pages_of-requires
-pages_of-requires c = (c.self.invariant.table.fits c.args.slot c.in-Some.held.now (sym c.in-Some.ensures)).short
-
 pub drop_child-requires : goal.drop_child-requires
 drop_child-requires c =
     let there = c.self.invariant.table.in_folder c.args.slot c.in-Some.held.now (sym c.in-Some.ensures) c.requires.above_root in
@@ -22,7 +19,7 @@ overflow_sub-count c =
 pub overflow_sub-pages : goal.overflow_sub-pages
 overflow_sub-pages c =
     let among = among_totals c.self.inside.nodes.items c.args.slot c.in-Some.held.now (sym c.in-Some.ensures) in
-    omega (arith, among.1, c.self.invariant.pages, c.pages_of.ensures.pages)
+    omega (arith, among.1, c.self.invariant.pages, c.pages_of.ensures)
 
 pub invariant_of-self-2 : goal.invariant_of-self-2
 invariant_of-self-2 c =
@@ -41,5 +38,5 @@ invariant_of-self-2 c =
       found = c.drop_child.ensures.gone;
       free = c.in_ok-insert.ensures.updates.0;
       count = omega (arith, among.0, c.self.invariant.count);
-      pages = omega (arith, among.1, c.self.invariant.pages, c.pages_of.ensures.pages);
+      pages = omega (arith, among.1, c.self.invariant.pages, c.pages_of.ensures);
     })

@@ -1,0 +1,19 @@
+use Rattle.std.proofs.Common.{◌≡◌, ℕ, List, Option, sym, ap, subst}
+use Rattle.vb_index.specs.declared.held.Held.{Held}
+use Rattle.vb_tree.specs.Trees.{without}
+use Rattle.vb_index.specs.Indexes.{IndexState, HasShapeOf}
+use Rattle.vb_index.proofs.Leaving.{leaves-above, detached}
+use Rattle.vb_index.proofs.index.Index.detach.Goals as goal
+
+pub take-requires-clause-above_root : goal.take-requires-clause-above_root
+take-requires-clause-above_root c = (leaves-above c.self.inside.table c.parts.result.now c.in_ok-slot.slot c.in_ok-slot.ensures.found).0
+
+pub take-requires-clause-there : goal.take-requires-clause-there
+take-requires-clause-there c = (leaves-above c.self.inside.table c.parts.result.now c.in_ok-slot.slot c.in_ok-slot.ensures.found).1
+
+pub returns-clause-tree : goal.returns-clause-tree
+returns-clause-tree c = λ tree is shape.
+    let nodes : c.args.self.now.nodes ≡ c.self.inside.table = ap (λ (s : IndexState). s.nodes) (sym c.self.view_is) in
+    let P : List (Option Held) → Type 0 = λ ns. HasShapeOf ns tree in
+    let Q : List (List ℕ) → Type 0 = λ p. HasShapeOf c.take.new.self (without p tree) in
+    subst Q c.parts.ensures (detached c.self.inside.table c.take.new.self tree c.parts.result.now c.in_ok-slot.slot c.in_ok-slot.ensures.found is (subst P nodes shape) c.in_ok-take.ensures.ok)
