@@ -2,7 +2,10 @@ pub mod CallsMade
 pub mod Chains
 pub mod CrashesOfClear
 pub mod EmptyNodes
+pub mod FilesKept
 pub mod Homes
 pub mod MapLists
+pub mod MountRests
 pub mod SameJournals
 pub mod SameStores
+pub mod SlotsRead

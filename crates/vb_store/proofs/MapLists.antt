@@ -21,10 +21,10 @@ unfolding maps_of_nodes
 maps_of_nodes-none = refl
 
 -- one map page more of a file
-pub add_step : (olds news : List MapPage) (slot first left after : ℕ) (maps items : List Ref) (i : ℕ) (r : Ref) (whole : List MapPage) → items ≡ maps → i < length items → r ≡ get_or items i r → after ≡ left - 113
-    → news ≡ olds ++ record { slot = slot; first = first; count = min left 113; reference = r } ∷ [] → olds ++ maps_from slot first left (drop i maps) ≡ whole
+pub add_step : (olds news : List MapPage) (slot first left after count : ℕ) (maps items : List Ref) (i : ℕ) (r : Ref) (whole : List MapPage) → items ≡ maps → i < length items → r ≡ get_or items i r → after ≡ left - 113 → count ≡ min left 113
+    → news ≡ olds ++ record { slot = slot; first = first; count = count; reference = r } ∷ [] → olds ++ maps_from slot first left (drop i maps) ≡ whole
     → news ++ maps_from slot (first + 113) after (drop (i + 1) maps) ≡ whole
-add_step olds news slot first left after maps items i r whole same within is less pushed before =
+add_step olds news slot first left after count maps items i r whole same within is less counted pushed before =
     let m : Ref → MapPage = λ x. record { slot = slot; first = first; count = min left 113; reference = x } in
     let there : i < length maps = subst (λ (l : List Ref). i < length l) same within in
     let item : r ≡ get_or maps i r = is ∙ ap (λ (l : List Ref). get_or l i r) same in
@@ -32,6 +32,7 @@ add_step olds news slot first left after maps items i r whole same within is les
     let step : maps_from slot first left (drop i maps) ≡ m (get_or maps i r) ∷ rest = maps_from-drop slot first left maps i r there in
     ap (λ (n : ℕ). news ++ maps_from slot (first + 113) n (drop (i + 1) maps)) less
     ∙ ap (λ (l : List MapPage). l ++ rest) pushed
+    ∙ ap (λ (n : ℕ). (let one : MapPage = record { slot = slot; first = first; count = n; reference = r } in olds ++ one ∷ []) ++ rest) counted
     ∙ append_assoc olds (m r ∷ []) rest
     ∙ ap (λ (x : Ref). olds ++ m x ∷ rest) item
     ∙ ap (λ (l : List MapPage). olds ++ l) (sym step)

@@ -31,8 +31,9 @@ use Rattle.vb_nodes.specs.declared.errors.TableError.{TableError}
 use Rattle.vb_nodes.specs.declared.errors.TableError.TheVariants.{Wrong as WrongNode, TooManyPages, Memory as NoMemoryForIndex}
 use Rattle.vb_nodes.specs.Claiming.{ClaimsState, claim_answer, with_claim}
 use Rattle.vb_tree.specs.declared.tree.Limits.{Limits}
-use Rattle.vb_store.specs.Expected.{with_ref}
-use Rattle.vb_store.specs.Metadata.{Mapped, Metadata, Standing, after_claim, after_page, all_claimed_by, and_then, block_of, claimed_by, claims_or_refusal, head_place, image_fault, images_fault, index_or_refusal, journal_fault, known_below, limits_of, map_checked, mapped_from, maps_in, maps_left, maps_of, metadata_from, metadata_of, no_claims, node_checked, node_or_refusal, nodes_left, refuse, unless, with_ref_at, with_refs_at}
+use Rattle.vb_index.specs.Changes.{with_ref}
+use Rattle.vb_store.specs.Views.{limits_of}
+use Rattle.vb_store.specs.Metadata.{Mapped, Metadata, Standing, after_claim, after_page, all_claimed_by, and_then, block_of, claimed_by, claims_or_refusal, head_place, image_fault, images_fault, index_or_refusal, journal_fault, known_below, map_checked, mapped_from, maps_in, maps_left, maps_of, metadata_from, metadata_of, no_claims, node_checked, node_or_refusal, nodes_left, refuse, unless, with_ref_at, with_refs_at}
 use Rattle.vb_store.specs.declared.map_page.MapPage.{MapPage}
 use Rattle.vb_store.specs.Sameness.{IsSameStore}
 use Rattle.vb_store.proofs.SameJournals.{IsNode, images_fault-none, nodes_of_images, or_refusal-none, pages_same}

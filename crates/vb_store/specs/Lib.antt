@@ -1,8 +1,11 @@
 pub mod Clear
-pub mod Expected
 pub mod Formats
 pub mod Maps
 pub mod Metadata
+pub mod MountStages
+pub mod Mounting
+pub mod NodesRead
 pub mod Recovered
 pub mod Runs
 pub mod Sameness
+pub mod Views

@@ -11,6 +11,7 @@ use Rattle.vb_store.specs.Metadata.{maps_of_node}
 
 -- a node has as many map references as its length takes
 pub record HasMaps (node : Node) : Type 0 where
+  pub slot : node.slot ≤ 65536
   pub short : node.length ≤ longest_file
   pub mapped : length node.maps ≡ map_pages_of node.length
 
@@ -18,8 +19,9 @@ pub record HasMaps (node : Node) : Type 0 where
 unfoldable pub maps_of_nodes : List Node → List MapPage
 maps_of_nodes nodes = flat_map maps_of_node nodes
 
--- a map page names some pages, at most 113 of them
+-- a map page names some pages, at most 113 of them, of a file in a slot that a store may have
 pub record IsMapPage (m : MapPage) : Type 0 where
+  pub slot : m.slot ≤ 65536
   pub some : 1 ≤ m.count
   pub few : m.count ≤ 113
 

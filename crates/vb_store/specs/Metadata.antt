@@ -33,7 +33,8 @@ use Rattle.vb_nodes.specs.declared.errors.TableError.TheVariants.{Wrong as Wrong
 use Rattle.vb_nodes.specs.Claiming.{ClaimsState, claim_answer, with_claim}
 use Rattle.vb_nodes.specs.Holdings.{index_from}
 use Rattle.vb_store.specs.declared.map_page.MapPage.{MapPage}
-use Rattle.vb_store.specs.Expected.{with_ref}
+use Rattle.vb_index.specs.Changes.{with_ref}
+use Rattle.vb_store.specs.Views.{data_start, limits_of}
 
 -- ---- one check after another
 
@@ -119,10 +120,6 @@ nodes_left nodes blocks (suc left) found =
 
 -- ---- the tree
 
--- how many pages and nodes a store may hold
-abbrev pub limits_of : Head → Limits
-limits_of head = record { pages = (head.blocks - 2 - 2 * head.nodes) / 2; nodes = head.nodes }
-
 -- an index, or why the nodes make none, where the head stands at this place and the blocks of the nodes at these
 abbrev pub index_or_refusal : ℕ → (ℕ → ℕ) → Result IndexState TableError → Result IndexState RecoverError
 index_or_refusal place places (Ok index) = Ok index
@@ -158,7 +155,7 @@ pub record Mapped : Type 0 where
 
 -- none of the data places below a head was named yet
 abbrev pub no_claims : Head → ClaimsState
-no_claims head = record { first = 2 + 2 * head.nodes; taken = replicate (head.blocks - (2 + 2 * head.nodes)) false }
+no_claims head = record { first = data_start head; taken = replicate (head.blocks - data_start head) false }
 
 -- the claims with one more, unless it is refused, where the block stands at this place that names it
 abbrev pub claims_or_refusal : ℕ → ClaimsState → Result (Unit {0}) Why → Result ClaimsState RecoverError

@@ -5,13 +5,21 @@ mod clear_disks;
 mod format_error;
 mod formatting;
 mod map_page;
+mod map_reads;
+mod mount_maps;
+mod mount_parts;
+mod mount_stage;
 mod new_homes;
+mod node_blocks;
 mod same_stores;
+mod used_places;
+mod view;
 
 pub use clear_disks::a_crash_leaves_a_clear_disk;
 pub use format_error::FormatError;
 pub use formatting::format;
 pub use same_stores::the_same_store_has_the_same_metadata;
+pub use view::{Mounted, View};
 
 #[cfg(test)]
 mod tests;

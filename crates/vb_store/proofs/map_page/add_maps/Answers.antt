@@ -10,10 +10,10 @@ loop-reference-preserved c =
     let inv = c.loop-reference.invariant in
     let many : length c.slice-reference-items.result.now ≡ length c.args.node.now.maps = ap length c.slice-reference-items.ensures in
     let m : MapPage = record { slot = c.args.node.now.slot; first = c.loop-reference.first; count = c.min.result; reference = c.reference-item.result } in
-    let is : IsMapPage m = record { some = omega (arith, inv.left, c.loop-reference-test.true, c.min.ensures); few = omega (arith, c.min.ensures) } in
+    let is : IsMapPage m = record { slot = omega (arith, c.requires.slot); some = omega (arith, inv.left, c.loop-reference-test.true, c.min.ensures); few = omega (arith, c.min.ensures) } in
     record {
       first = omega arith;
       left = omega (arith, c.saturating_sub-left.ensures, c.loop-reference-test.true, inv.left);
-      maps = add_step _ _ _ _ _ _ _ _ _ _ _ c.slice-reference-items.ensures c.loop-reference-test.true c.reference-item.is ? ? inv.maps;
+      maps = add_step _ _ _ _ _ _ _ _ _ _ _ _ c.slice-reference-items.ensures c.loop-reference-test.true c.reference-item.is c.saturating_sub-left.ensures c.min.ensures c.in_ok-push.ensures.items inv.maps;
       each = λ all. All-same IsMapPage _ _ c.in_ok-push.ensures.items (All-push IsMapPage _ m (inv.each all) is);
     }

@@ -1,0 +1,61 @@
+-- Views: the committed state of a store in memory, and the data places that it uses.
+use Rattle.std.specs.Prelude.{◌≡◌, ◌↔◌, ℕ, ◌+◌, ◌-◌, ◌*◌, ◌/◌, ◌<◌, ◌≤◌, ◌==◌, List, [], ◌++◌, length, map, count_by, Option, Some, None, unwrap_or}
+use Rattle.std.specs.List.{All, Contains, flat_map}
+use Rattle.vb_block.specs.declared.digest.Ref.{Ref}
+use Rattle.vb_head.specs.declared.head.Head.{Head}
+use Rattle.vb_head.specs.declared.head.State.TheVariants.{Closed}
+use Rattle.vb_head.specs.Heads.{IsInRange}
+use Rattle.vb_index.specs.declared.held.Held.{Held}
+use Rattle.vb_index.specs.Indexes.{IndexState}
+use Rattle.vb_index.specs.Nodes.{held_at, pages_in, refs_of}
+use Rattle.vb_space.specs.Spaces.{DataPlaces, IsCommitted}
+use Rattle.vb_tree.specs.declared.tree.Limits.{Limits}
+use Rattle.vb_tree.specs.Trees.{map_pages_of}
+
+-- what contracts see of a view: its head, the index of the committed nodes, and the data places
+pub record ViewState : Type 0 where
+  pub head : Head
+  pub index : IndexState
+  pub space : DataPlaces
+
+-- the first data place of a store
+abbrev pub data_start : Head → ℕ
+data_start head = 2 + 2 * head.nodes
+
+-- what a store's tree may take: half of the data places, and all nodes
+abbrev pub limits_of : Head → Limits
+limits_of head = record { pages = (head.blocks - 2 - 2 * head.nodes) / 2; nodes = head.nodes }
+
+-- the places that references name
+abbrev pub places_of : List Ref → List ℕ
+places_of refs = map (λ r. r.place) refs
+
+-- the places of the map pages of what a slot holds, and then those of its data pages
+abbrev pub places_of_slot : Option Held → List ℕ
+places_of_slot None = []
+places_of_slot (Some held) = places_of held.node.maps ++ places_of (unwrap_or (refs_of held) [])
+
+-- the places of the map pages and data pages of all slots
+abbrev pub places_in : List (Option Held) → List ℕ
+places_in nodes = flat_map places_of_slot nodes
+
+-- an index is that of a store at rest: it keeps the store's limits, each file has its map pages, and the references
+-- of map pages and data pages name data places, each of them once
+pub record CanView (head : Head) (index : IndexState) : Type 0 where
+  pub range : IsInRange head
+  pub closed : head.state ≡ Closed
+  pub limits : index.limits ≡ limits_of head
+  pub slots : length index.nodes ≡ head.nodes
+  pub pages : pages_in index.nodes ≤ index.limits.pages
+  pub maps : (slot : ℕ) (held : Held) → held_at index.nodes slot ≡ Some held → length held.node.maps ≡ map_pages_of held.node.length
+  pub above : All (λ place. data_start head ≤ place) (places_in index.nodes)
+  pub below : All (λ place. place < head.blocks) (places_in index.nodes)
+  pub once : (place : ℕ) → count_by (λ p. p == place) (places_in index.nodes) ≤ 1
+
+-- a view: its index is that of its head, and of its data places the committed view uses exactly those that the
+-- index's references name
+pub record IsView (v : ViewState) : Type 0 where
+  pub can : CanView v.head v.index
+  pub first : v.space.first ≡ data_start v.head
+  pub end : v.space.first + length v.space.users ≡ v.head.blocks
+  pub committed : (place : ℕ) → IsCommitted v.space place ↔ Contains (places_in v.index.nodes) place

@@ -1,0 +1,72 @@
+// The view of a store's committed state.
+ghost use Rattle.std.specs.Prelude.{◌≡◌, ◌≤◌, length, IfOk};
+
+use crate::used_places::used_places;
+use std::alloc::{AllocError, Global};
+use std::marker::Model;
+use vb_head::Head;
+use vb_index::Index;
+use vb_space::Space;
+
+/// The committed state of a store in memory: its head, its nodes with the references of their pages, and which of
+/// its data places are used. Contracts see these three.
+#[derive(Drop)]
+pub struct View {
+    head: Head,
+    index: Index,
+    space: Space,
+}
+
+impl Model for View {
+    ghost use Rattle.vb_store.specs.Views.{ViewState, IsView};
+
+    ghost Value = { ViewState };
+
+    ghost view = { λ a. record { head = a.head; index = a.index; space = a.space } };
+
+    ghost invariant = { λ a. IsView (record { head = a.head; index = a.index; space = a.space }) };
+}
+
+impl View {
+    ghost use Rattle.vb_space.specs.Spaces.{committed_count, next_count};
+    ghost use Rattle.vb_store.specs.Views.{places_in, CanView, IsView};
+
+    /// The view of a store at rest with this head, whose nodes the index has. No next view is begun.
+    pub fn of(alloc: Global, head: Head, index: Index) -> Result<View, AllocError>
+        requires { CanView head index }
+        ensures head { IfOk result (λ view. view.head ≡ head) }
+        ensures index { IfOk result (λ view. view.index ≡ index) }
+
+        // The committed view uses exactly the places that the references name.
+        ensures view { IfOk result (λ view. IsView view) }
+        ensures few { IfOk result (λ view. committed_count view.space ≤ length (places_in index.nodes)) }
+        ensures none_begun { IfOk result (λ view. next_count view.space ≡ 0) }
+    {
+        let used = used_places(alloc, &index, head.nodes)?;
+        let space = Space::of(alloc, 2 + 2 * head.nodes, head.blocks, &used)?;
+        Ok(View { head, index, space })
+    }
+
+    /// The committed nodes, with the references of their pages.
+    pub fn index(&self) -> &Index
+        ensures index { result.now ≡ self.now.index }
+        ensures view { IsView self.now }
+    {
+        &self.index
+    }
+
+    /// The head of the committed state.
+    pub fn head(&self) -> Head
+        ensures head { result ≡ self.now.head }
+        ensures view { IsView self.now }
+    {
+        self.head
+    }
+}
+
+/// A disk, and the view of the store that stands on it.
+#[derive(Drop)]
+pub struct Mounted<D> {
+    pub disk: D,
+    pub view: View,
+}
