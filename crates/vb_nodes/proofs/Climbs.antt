@@ -2,7 +2,6 @@
 use Rattle.std.proofs.Common.{◌≡◌, ℕ, zero, suc, ◌+◌, ◌*◌, ◌^◌, ◌<◌, ◌≤◌, ◌==◌, Bool, true, false, cond, List, [], ◌∷◌, ◌++◌, length, get_or, map, refl, sym, ap, subst, ◌∙◌, append_assoc, arith}
 use Rattle.std.specs.Fn.{iterate}
 use Rattle.std.specs.List.{flat_map}
-use Rattle.std.proofs.lemmas.Bool.{cases_Bool}
 use Rattle.std.proofs.lemmas.List.{append-nil, get_or-map, length-append, length-map}
 use Rattle.std.proofs.lemmas.Grind.{flat_map-append}
 use Rattle.std.proofs.Math.Nat.{pow-suc}
@@ -87,9 +86,9 @@ AreFollowable-ascents nodes steps ascents by_slot are few = record {
 single : (nodes : List Node) (slot : ℕ) → (node_at nodes slot).slot ≡ slot → step_of (node_at nodes slot) ≡ ascent_of nodes 1 slot
 single nodes slot own =
     ap (λ (s : ℕ). let a : Ascent = record { to = (node_at nodes slot).parent; parts = cond (s == 0) 0 1; bytes = cond (s == 0) 0 (1 + length (node_at nodes slot).name) } in a) own ∙ by (slot == 0) where
-  by : (b : Bool) → (let a : Ascent = record { to = (node_at nodes slot).parent; parts = cond b 0 1; bytes = cond b 0 (1 + length (node_at nodes slot).name) } in a) ≡ (let a : Ascent = record { to = parent_in nodes slot; parts = length ([] ++ cond b [] ((node_at nodes slot).name ∷ [])); bytes = text_bytes ([] ++ cond b [] ((node_at nodes slot).name ∷ [])) } in a)
-  by true = refl
-  by false = same_ascent _ _ _ _ _ _ refl refl (omega (arith, length-append (47 ∷ (node_at nodes slot).name) []))
+      by : (b : Bool) → (let a : Ascent = record { to = (node_at nodes slot).parent; parts = cond b 0 1; bytes = cond b 0 (1 + length (node_at nodes slot).name) } in a) ≡ (let a : Ascent = record { to = parent_in nodes slot; parts = length ([] ++ cond b [] ((node_at nodes slot).name ∷ [])); bytes = text_bytes ([] ++ cond b [] ((node_at nodes slot).name ∷ [])) } in a)
+      by true = refl
+      by false = same_ascent _ _ _ _ _ _ refl refl (omega (arith, length-append (47 ∷ (node_at nodes slot).name) []))
 
 pub AreAscents-single : (nodes : List Node) → AreBySlot nodes → AreAscents nodes 1 (map step_of nodes)
 AreAscents-single nodes by_slot = record {

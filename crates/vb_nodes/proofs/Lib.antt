@@ -1,2 +1,5 @@
 pub mod NodeLaws
 pub mod Climbs
+pub mod Judging
+pub mod TreeFacts
+pub mod Placing

@@ -39,6 +39,13 @@ index_from limits nodes =
     refuse_fault (table_fault nodes)
     (if nat_lt limits.pages (pages_of_nodes nodes) then Err TooManyPages else Ok (record { limits = limits; nodes = held_of nodes }))
 
+-- the answer tells this first fault, or that there is none, or memory ran out
+abbrev pub IsJudged : {X : Type 0} → Option Fault → Result X TableError → Type 0
+IsJudged fault (Ok x) = fault ≡ None
+IsJudged fault (Err (Wrong slot why)) = fault ≡ Some (record { slot = slot; why = why })
+IsJudged fault (Err TooManyPages) = ⊥
+IsJudged fault (Err Memory) = Unit {0}
+
 -- the answer is this index or refusal, or memory ran out
 abbrev pub IsIndexed : Result IndexState TableError → Result IndexState TableError → Type 0
 IsIndexed due (Ok index) = due ≡ Ok index

@@ -26,7 +26,11 @@ fn step_up(node: &Node) -> Ascent
     Ascent {
         to: node.parent,
         parts: if is_root { 0 } else { 1 },
-        bytes: if is_root { 0 } else { 1 + node.name.len() as u32 },
+        bytes: if is_root {
+            0
+        } else {
+            1 + node.name.len() as u32
+        },
     }
 }
 

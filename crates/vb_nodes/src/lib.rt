@@ -2,12 +2,19 @@
 #![tactic(auto)]
 
 mod ascents;
+mod build;
+mod checks;
 mod claims;
 mod errors;
+mod indexing;
 mod names;
 
 pub use claims::Claims;
 pub use errors::TableError;
+pub use indexing::index_of;
 pub use vb_block::Why;
 pub use vb_index::{Index, Limits};
 pub use vb_inode::Node;
+
+/// The nodes of a store, by slot.
+pub type Nodes = vb_list::Items<Node>;
