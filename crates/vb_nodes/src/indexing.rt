@@ -26,7 +26,16 @@ pub fn index_of(alloc: Global, limits: Limits, nodes: Nodes) -> Result<Index, Ta
     requires by_slot { AreBySlot nodes }
     ensures { IsIndexed (index_from limits nodes) result }
 {
-    let nodes = nodes.slice();
+    index_over(alloc, limits, nodes.slice())
+}
+
+/// The same, of nodes that the caller keeps.
+pub fn index_over(alloc: Global, limits: Limits, nodes: &[Node]) -> Result<Index, TableError>
+    requires limits { AreInLimits limits }
+    requires as_many { length nodes.now ≡ limits.nodes }
+    requires by_slot { AreBySlot nodes.now }
+    ensures { IsIndexed (index_from limits nodes.now) result }
+{
     let ascents = check_nodes(alloc, nodes)?;
     if pages_of_nodes(nodes) > limits.pages {
         return Err(TableError::TooManyPages);

@@ -11,7 +11,7 @@ mod names;
 
 pub use claims::Claims;
 pub use errors::TableError;
-pub use indexing::index_of;
+pub use indexing::{index_of, index_over};
 pub use vb_block::Why;
 pub use vb_index::{Index, Limits};
 pub use vb_inode::Node;

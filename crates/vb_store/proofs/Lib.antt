@@ -9,3 +9,7 @@ pub mod MountRests
 pub mod SameJournals
 pub mod SameStores
 pub mod SlotsRead
+pub mod EmptyStores
+pub mod Homes
+pub mod MadeEmpty
+pub mod EmptyViews

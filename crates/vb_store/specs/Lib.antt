@@ -1,4 +1,5 @@
 pub mod Clear
+pub mod EmptyStores
 pub mod Formats
 pub mod Maps
 pub mod Metadata

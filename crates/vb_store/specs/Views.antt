@@ -1,5 +1,5 @@
 -- Views: the committed state of a store in memory, and the data places that it uses.
-use Rattle.std.specs.Prelude.{◌≡◌, ◌↔◌, ℕ, ◌+◌, ◌-◌, ◌*◌, ◌/◌, ◌<◌, ◌≤◌, ◌==◌, List, [], ◌++◌, length, map, count_by, Option, Some, None, unwrap_or}
+use Rattle.std.specs.Prelude.{◌≡◌, ◌↔◌, ℕ, ◌+◌, ◌-◌, ◌*◌, ◌/◌, ◌<◌, ◌≤◌, ◌==◌, List, [], ◌∷◌, ◌++◌, length, replicate, map, count_by, Option, Some, None, unwrap_or}
 use Rattle.std.specs.List.{All, Contains, flat_map}
 use Rattle.vb_block.specs.declared.digest.Ref.{Ref}
 use Rattle.vb_head.specs.declared.head.Head.{Head}
@@ -7,7 +7,7 @@ use Rattle.vb_head.specs.declared.head.State.TheVariants.{Closed}
 use Rattle.vb_head.specs.Heads.{IsInRange}
 use Rattle.vb_index.specs.declared.held.Held.{Held}
 use Rattle.vb_index.specs.Indexes.{IndexState}
-use Rattle.vb_index.specs.Nodes.{held_at, pages_in, refs_of}
+use Rattle.vb_index.specs.Nodes.{held_at, pages_in, refs_of, root_held}
 use Rattle.vb_space.specs.Spaces.{DataPlaces, IsCommitted}
 use Rattle.vb_tree.specs.declared.tree.Limits.{Limits}
 use Rattle.vb_tree.specs.Trees.{map_pages_of}
@@ -51,6 +51,10 @@ pub record CanView (head : Head) (index : IndexState) : Type 0 where
   pub above : All (λ place. data_start head ≤ place) (places_in index.nodes)
   pub below : All (λ place. place < head.blocks) (places_in index.nodes)
   pub once : (place : ℕ) → count_by (λ p. p == place) (places_in index.nodes) ≤ 1
+
+-- the index of a store without entries: a root, and no node in the other slots
+abbrev pub empty_index : Head → IndexState
+empty_index head = record { limits = limits_of head; nodes = Some root_held ∷ replicate (head.nodes - 1) None }
 
 -- a view: its index is that of its head, and of its data places the committed view uses exactly those that the
 -- index's references name

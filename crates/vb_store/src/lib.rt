@@ -2,6 +2,7 @@
 #![tactic(auto)]
 
 mod clear_disks;
+mod empty_stores;
 mod format_error;
 mod formatting;
 mod map_page;
@@ -16,6 +17,9 @@ mod used_places;
 mod view;
 
 pub use clear_disks::a_crash_leaves_a_clear_disk;
+pub use empty_stores::{
+    a_format_leaves_an_empty_store, an_empty_store_can_be_viewed, an_empty_store_is_shown,
+};
 pub use format_error::FormatError;
 pub use formatting::format;
 pub use same_stores::the_same_store_has_the_same_metadata;

@@ -1,5 +1,6 @@
 // A disk in memory that is made a store.
-ghost use Rattle.vb_store.specs.Formats.{CanFormat};
+ghost use Rattle.std.specs.Prelude.{◌≡◌};
+ghost use Rattle.vb_store.specs.Views.{empty_index, limits_of, CanView};
 
 use super::*;
 use std::alloc::Global;
@@ -7,10 +8,21 @@ use std::test::Fail;
 use vb_block::{FolderId, Page};
 use vb_disk::{Disk, DiskError, MemoryDisk};
 use vb_head::{Head, HeadRead, State, read_head};
+use vb_index::{Index, Limits};
 
-// The folder of the tests.
-fn folder() -> FolderId {
-    FolderId::of([7; 16])
+// The head of an empty store of 38 places and 16 nodes.
+fn small_head() -> Head
+    ensures viewed { CanView result (empty_index result) }
+    ensures limits { limits_of result ≡ record { pages = 2; nodes = 16 } }
+{
+    Head {
+        id: FolderId::of([7; 16]),
+        blocks: 38,
+        nodes: 16,
+        sequence: 2,
+        epoch: 0,
+        state: State::Closed,
+    }
 }
 
 // Makes a disk a store of 38 places and 16 nodes.
@@ -33,14 +45,7 @@ fn a_new_disk_becomes_an_empty_store(rt: HostRuntime) -> Result<(), Fail> {
     let alloc = rt.alloc();
     let mut disk = MemoryDisk::new(alloc, 0);
     assert_eq!(rt; format_small(alloc, &mut disk), Ok(()));
-    let head = Head {
-        id: folder(),
-        blocks: 38,
-        nodes: 16,
-        sequence: 2,
-        epoch: 0,
-        state: State::Closed,
-    };
+    let head = small_head();
     assert_eq!(rt; disk.size()?, 38);
     assert_eq!(rt; head_at(alloc, &mut disk, 0)?, HeadRead::Good(head));
     assert_eq!(rt; head_at(alloc, &mut disk, 1)?, HeadRead::Good(head));
@@ -66,5 +71,23 @@ fn a_failed_call_stops_a_format(rt: HostRuntime) -> Result<(), Fail> {
     );
     assert!(rt; is_rebuilding);
     assert_eq!(rt; format_small(alloc, &mut disk), Ok(()));
+    Ok(())
+}
+
+#[test]
+fn an_empty_store_is_viewed(rt: HostRuntime) -> Result<(), Fail> {
+    let alloc = rt.alloc();
+    let limits = Limits {
+        pages: 2,
+        nodes: 16,
+    };
+    let view = View::of(alloc, small_head(), Index::new(alloc, limits)?)?;
+    assert_eq!(rt; view.head(), small_head());
+    assert_eq!(rt; view.index().count(), 1);
+    let mounted = Mounted {
+        disk: MemoryDisk::new(alloc, 38),
+        view,
+    };
+    assert_eq!(rt; mounted.view.index().pages(), 0);
     Ok(())
 }

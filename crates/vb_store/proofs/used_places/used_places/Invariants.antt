@@ -1,4 +1,4 @@
-use Rattle.std.proofs.Common.{◌≡◌, ◌++◌, take}
+use Rattle.std.proofs.Common.{◌≡◌, take}
 use Rattle.vb_store.specs.Views.{places_in}
 use Rattle.vb_store.proofs.used_places.used_places.Given as goal
 

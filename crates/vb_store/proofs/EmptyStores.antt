@@ -1,0 +1,116 @@
+-- An empty store: what crashes leave of it, what it shows, and that the next commit may start over it.
+use Rattle.std.proofs.Common.{◌≡◌, ℕ, zero, suc, ◌+◌, ◌<◌, List, [], ◌∷◌, length, get_or, Option, None, unwrap_or, inl, inr, refl, sym, ap, subst, ◌∙◌, arith}
+use Rattle.std.proofs.lemmas.Bool.{cases_lt}
+use Rattle.vb_disk.specs.declared.cell.Cell.{Cell}
+use Rattle.vb_disk.specs.Cells.{candidate_at, read_of, synced_cell}
+use Rattle.vb_disk.specs.Crashes.{CellMayCrashTo, MayCrashTo}
+use Rattle.vb_disk.specs.States.{DiskState, read_at}
+use Rattle.vb_disk.proofs.StatesOf.{same_state}
+use Rattle.vb_head.specs.Heads.{IsHead, IsInRange, head_page}
+use Rattle.vb_journal.specs.Progress.{IsAtRest}
+use Rattle.vb_journal.specs.Shown.{Shows}
+use Rattle.vb_journal.proofs.Heads.{good_of-head_page, greater-same}
+use Rattle.vb_store.specs.EmptyStores.{HoldsEmptyStore, IsJournalWhole, IsMadeEmpty, empty_home, whole_cell}
+use Rattle.vb_store.specs.Formats.{CanFormat, made_head}
+
+-- ---- crashes
+
+same_cell : (a b : Cell) → a.first ≡ b.first → a.later ≡ b.later → a.hurt ≡ b.hurt → a ≡ b
+same_cell a b first later hurt = λ i. record { first = first i; later = later i; hurt = hurt i }
+
+alone_at : (first d : List ℕ) (i : ℕ) → i < length (first ∷ []) → get_or (first ∷ []) i d ≡ first
+alone_at first d zero within = refl
+alone_at first d (suc i) within = absurd (omega arith)
+
+-- a place with one candidate is left as it is by each crash
+pub cell_stands : (old new : Cell) → old.later ≡ [] → CellMayCrashTo old new → new ≡ old
+cell_stands old new alone crash =
+    let picked : get_or (old.first ∷ old.later) crash.picked.0 new.first ≡ new.first = crash.picked.2 in
+    let P : List (List ℕ) → Type 0 = λ l. crash.picked.0 < length (old.first ∷ l) in
+    let within : crash.picked.0 < length (old.first ∷ []) = subst P alone crash.picked.1 in
+    let first : new.first ≡ old.first = sym picked ∙ ap (λ (l : List (List ℕ)). get_or (old.first ∷ l) crash.picked.0 new.first) alone ∙ alone_at old.first new.first crash.picked.0 within in
+    same_cell new old first (crash.alone ∙ sym alone) (elim crash.hurt [
+      | inl as_before ↦ as_before
+      | inr torn ↦ absurd (omega (arith, torn.several, ap length alone))
+    ])
+
+later_of : (cell : Cell) (page : List ℕ) → cell ≡ whole_cell page → cell.later ≡ []
+later_of cell page is = ap (λ (c : Cell). c.later) is
+
+whole_stands : (page : List ℕ) (old new : Cell) → old ≡ whole_cell page → CellMayCrashTo old new → new ≡ whole_cell page
+whole_stands page old new is crash = cell_stands old new (later_of old page is) crash ∙ is
+
+pub HoldsEmptyStore-crashed : (folder : List ℕ) (blocks nodes : ℕ) (old new : DiskState) → HoldsEmptyStore folder blocks nodes old → MayCrashTo old new → HoldsEmptyStore folder blocks nodes new
+HoldsEmptyStore-crashed folder blocks nodes old new holds crash = record {
+  size = crash.size ∙ holds.size;
+  first_head = whole_stands (head_page (made_head folder blocks nodes)) (old.cells 0) (new.cells 0) holds.first_head (crash.each 0);
+  second_head = whole_stands (head_page (made_head folder blocks nodes)) (old.cells 1) (new.cells 1) holds.second_head (crash.each 1);
+  homes = λ slot within. whole_stands (empty_home slot) (old.cells (2 + slot)) (new.cells (2 + slot)) (holds.homes slot within) (crash.each (2 + slot));
+}
+
+-- each place of a disk that was made an empty store has one candidate
+pub IsMadeEmpty-alone : (folder : List ℕ) (blocks nodes : ℕ) (old new : DiskState) → IsMadeEmpty folder blocks nodes old new → (place : ℕ) → (new.cells place).later ≡ []
+IsMadeEmpty-alone folder blocks nodes old new made zero = later_of (new.cells 0) (head_page (made_head folder blocks nodes)) made.store.first_head
+IsMadeEmpty-alone folder blocks nodes old new made (suc zero) = later_of (new.cells 1) (head_page (made_head folder blocks nodes)) made.store.second_head
+IsMadeEmpty-alone folder blocks nodes old new made (suc (suc n)) =
+    let P : ℕ → Type 0 = λ place. (new.cells place).later ≡ [] in
+    let at : 2 + n ≡ suc (suc n) = omega arith in
+    elim (cases_lt n nodes) [
+      | inl home ↦ subst P at (later_of (new.cells (2 + n)) (empty_home n) (made.store.homes n home))
+      | inr after ↦ elim (cases_lt (suc (suc n)) blocks) [
+        | inl within ↦ ap (λ (c : Cell). c.later) (made.kept (suc (suc n)) (omega arith) within)
+        | inr past ↦ ap (λ (c : Cell). c.later) (made.past (suc (suc n)) past)
+      ]
+    ]
+
+pub IsMadeEmpty-stands : (folder : List ℕ) (blocks nodes : ℕ) (old new after : DiskState) → IsMadeEmpty folder blocks nodes old new → MayCrashTo new after → after ≡ new
+IsMadeEmpty-stands folder blocks nodes old new after made crash =
+    same_state after new crash.size (λ place. cell_stands (new.cells place) (after.cells place) (IsMadeEmpty-alone folder blocks nodes old new made place) (crash.each place)) crash.writes crash.syncs
+
+-- ---- what is shown
+
+pub IsInRange-made_head : (folder : List ℕ) (blocks nodes : ℕ) → CanFormat folder blocks nodes → IsInRange (made_head folder blocks nodes)
+IsInRange-made_head folder blocks nodes can = record {
+  blocks = can.at_most;
+  nodes_low = can.nodes_low;
+  nodes_high = can.nodes_high;
+  space = can.space;
+  id = can.named;
+  sequence_low = omega arith;
+  sequence_high = omega arith;
+  epoch = omega arith;
+  count = omega arith;
+}
+
+pub IsHead-made_head : (folder : List ℕ) (blocks nodes : ℕ) → CanFormat folder blocks nodes → length folder ≡ 16 → IsHead (made_head folder blocks nodes)
+IsHead-made_head folder blocks nodes can long = record { range = IsInRange-made_head folder blocks nodes can; id_length = long }
+
+pub Shows-empty : (folder : List ℕ) (blocks nodes : ℕ) (d : DiskState) → CanFormat folder blocks nodes → length folder ≡ 16 → HoldsEmptyStore folder blocks nodes d → Shows (read_at d) (made_head folder blocks nodes) 0 empty_home
+Shows-empty folder blocks nodes d can long holds =
+    let is = IsHead-made_head folder blocks nodes can long in
+    record {
+      found = made_head folder blocks nodes;
+      counts = greater-same (made_head folder blocks nodes) _ _
+          (good_of-head_page (made_head folder blocks nodes) (read_at d 0) is (ap read_of holds.first_head))
+          (good_of-head_page (made_head folder blocks nodes) (read_at d 1) is (ap read_of holds.second_head));
+      id = refl;
+      blocks = refl;
+      nodes = refl;
+      epoch_is = refl;
+      each = λ slot within. ap read_of (holds.homes slot within);
+    }
+
+-- ---- the next commit
+
+synced_whole : (cell : Cell) → cell.hurt ≡ None → synced_cell cell ≡ whole_cell (read_of cell)
+synced_whole cell whole =
+    same_cell (synced_cell cell) (whole_cell (read_of cell)) (sym (ap (λ (h : Option (List ℕ)). unwrap_or h (candidate_at cell (length cell.later))) whole)) refl whole
+
+pub IsAtRest-empty : (folder : List ℕ) (blocks nodes : ℕ) (old new : DiskState) → CanFormat folder blocks nodes → length folder ≡ 16 → IsMadeEmpty folder blocks nodes old new → IsJournalWhole nodes old → IsAtRest (made_head folder blocks nodes) empty_home (λ i. read_at old (2 + nodes + i)) new
+IsAtRest-empty folder blocks nodes old new can long made whole = record {
+  id = long;
+  first = made.store.first_head;
+  second = made.store.second_head;
+  each_home = made.store.homes;
+  each_image = λ i within. made.kept (2 + nodes + i) (omega arith) (omega arith) ∙ synced_whole (old.cells (2 + nodes + i)) (whole i within);
+}
