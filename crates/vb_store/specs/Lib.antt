@@ -9,4 +9,5 @@ pub mod NodesRead
 pub mod Recovered
 pub mod Runs
 pub mod Sameness
+pub mod Surveys
 pub mod Views

@@ -96,3 +96,12 @@ Stops false before error after = HasEnded after error
 
 abbrev pub IsStopped : MountStage → RecoverError → MountStage → Type 0
 IsStopped before error after = Stops (is_retried error) before error after
+
+-- no call of the disk failed
+abbrev pub IsNoFault : RecoverError → Type 0
+IsNoFault (NotAStore place) = Unit {0}
+IsNoFault (Damaged place kept found) = Unit {0}
+IsNoFault (Unfit place why) = Unit {0}
+IsNoFault Rebuilding = Unit {0}
+IsNoFault DiskFault = ⊥
+IsNoFault Memory = Unit {0}

@@ -7,12 +7,14 @@ mod format_error;
 mod formatting;
 mod map_page;
 mod map_reads;
+mod mount_homes;
 mod mount_maps;
 mod mount_parts;
 mod mount_stage;
 mod new_homes;
 mod node_blocks;
 mod same_stores;
+mod surveys;
 mod used_places;
 mod view;
 

@@ -3,7 +3,7 @@ ghost use Rattle.std.specs.Prelude.{◌≡◌, ◌<◌, ◌≤◌, ℕ, List, fa
 ghost use Rattle.vb_disk.specs.Causes.{HasCause};
 ghost use Rattle.vb_disk.specs.States.{DiskState, read_at};
 ghost use Rattle.vb_store.specs.Metadata.{map_checked};
-ghost use Rattle.vb_store.specs.MountStages.{blocks_of, due_place, rest_of, rest_of_maps, HasEnded, IsSameAnswer, IsStopped, StandsAfter};
+ghost use Rattle.vb_store.specs.MountStages.{blocks_of, due_place, rest_of, rest_of_maps, HasEnded, IsNoFault, IsSameAnswer, IsStopped, StandsAfter};
 ghost use Rattle.vb_store.specs.NodesRead.{is_retried};
 
 use crate::map_reads::{check_map, claim_all, set_refs};
@@ -93,10 +93,11 @@ fn whole(tree: Tree, place: u32) -> Stepped
 }
 
 /// Takes in the map page that was read.
-fn take_map(alloc: Global, claimed: Claimed, page: &Page) -> Stepped
+pub(crate) fn take_map(alloc: Global, claimed: Claimed, page: &Page) -> Stepped
     ensures rest { IsSameAnswer claimed.map.reference.place page.now (MountStage.ReadMap claimed) result.0 }
     ensures blocks { blocks_of result.0 ≤ claimed.tree.head.blocks }
     ensures error { IfErr result.1 (StandsAfter (MountStage.ReadMap claimed) result.0) }
+    ensures no_fault { IfErr result.1 IsNoFault }
 {
     match check_map(alloc, &claimed.map, page) {
         Ok(refs) => take_refs(claimed, &refs),

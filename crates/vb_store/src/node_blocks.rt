@@ -25,17 +25,19 @@ pub(crate) fn block_place(slots: &[u32], nodes: u32, slot: u32) -> u32
     place
 }
 
-/// The node of a slot in its block, which stood at this place.
+/// The node of a slot in its block. The journal's images that were put over the homes have these slots.
 #[tactic(auto, unfolding(vb_journal::specs::Images::slot_of, vb_inode::specs::Reading::node_read))]
 pub(crate) fn check_node(
     alloc: Global,
     page: &Page,
     nodes: u32,
     slot: u32,
-    place: u32,
+    slots: &[u32],
 ) -> Result<Node, RecoverError>
-    requires { slot ≤ 65536 }
-    ensures due { IsDue (node_checked nodes slot (record { place = place; page = page.now })) result }
+    requires slot { slot ≤ 65536 }
+    requires nodes { nodes ≤ 65536 }
+    requires few { length slots.now ≤ 65536 }
+    ensures due { IsDue (node_checked nodes slot (record { place = block_place slots.now nodes slot; page = page.now })) result }
     ensures of_store { IfOk result (λ node. IsNodeOf nodes node) }
     ensures own_slot { IfOk result (λ node. node.slot ≡ slot) }
 {
@@ -45,10 +47,13 @@ pub(crate) fn check_node(
             if is_own {
                 Ok(node)
             } else {
-                Err(off_slot(place))
+                Err(off_slot(block_place(slots, nodes, slot)))
             }
         }
-        Err(error) => Err(refusal(error, slot, place, is_own)),
+        Err(error) => {
+            let place = block_place(slots, nodes, slot);
+            Err(refusal(error, slot, place, is_own))
+        }
     }
 }
 
