@@ -4,6 +4,7 @@ pub mod CrashesOfClear
 pub mod EmptyNodes
 pub mod EmptyStores
 pub mod EmptyViews
+pub mod Faultless
 pub mod FilesKept
 pub mod Homes
 pub mod MadeEmpty

@@ -1,5 +1,6 @@
 -- How far a mount has come: what is left of its answer, and which call is due.
 use Rattle.std.specs.Prelude.{◌≡◌, ℕ, ◌+◌, ◌-◌, Bool, true, false, List, [], ◌∷◌, length, drop, Option, Some, None, Result, Ok, Err}
+use Rattle.vb_disk.specs.States.{DiskState, read_at}
 use Rattle.vb_head.specs.declared.head.Head.{Head}
 use Rattle.vb_inode.specs.declared.node.Node.{Node}
 use Rattle.vb_index.specs.Indexes.{IndexState}
@@ -105,3 +106,7 @@ IsNoFault (Unfit place why) = Unit {0}
 IsNoFault Rebuilding = Unit {0}
 IsNoFault DiskFault = ⊥
 IsNoFault Memory = Unit {0}
+
+-- the same, over a disk that goes on giving what its reads give
+abbrev pub rest_on : DiskState → MountStage → Result Metadata RecoverError
+rest_on d stage = rest_of (λ place. read_at d place) stage

@@ -10,6 +10,7 @@ mod map_reads;
 mod mount_homes;
 mod mount_maps;
 mod mount_parts;
+mod mount_reads;
 mod mount_stage;
 mod new_homes;
 mod node_blocks;
