@@ -1,7 +1,12 @@
 pub mod Calls
 pub mod Commits
 pub mod Images
+pub mod Journals
+pub mod Marks
 pub mod Plans
 pub mod Progress
 pub mod Recoveries
+pub mod Recovering
+pub mod Recovers
+pub mod Replays
 pub mod Shown

@@ -1,10 +1,13 @@
 -- What a store recovers to, by what reads of its disk give: the head that counts, the images of the journal, and the
 -- image of each node.
-use Rattle.std.specs.Prelude.{ℕ, ◌+◌, Bool, true, false, not, ◌||◌, nat_lt, ◌==◌, if◌then◌else◌, List, [], ◌∷◌, ◌++◌, Option, Some, None, Result, Ok, Err}
+use Rattle.std.specs.Prelude.{ℕ, ◌+◌, Bool, true, false, not, ◌&&◌, ◌||◌, nat_lt, ◌==◌, if◌then◌else◌, List, [], ◌∷◌, ◌++◌, Option, Some, None, Result, Ok, Err}
 use Rattle.std.specs.List.{list_any}
+use Rattle.std.specs.Str.{bytes_eq}
 use Rattle.sha2.specs.Sha256.{sha256}
 use Rattle.vb_block.specs.declared.why.Why.TheVariants.{Blocks, Slot}
 use Rattle.vb_block.specs.Pages.{seal_of, sealed_part}
+use Rattle.vb_disk.specs.declared.disk_error.DiskError.{DiskError}
+use Rattle.vb_disk.specs.declared.disk_error.DiskError.TheVariants.{Failed, Memory as NoMemory}
 use Rattle.vb_disk.specs.Misses.{is_sealed}
 use Rattle.vb_head.specs.declared.head.Head.{Head}
 use Rattle.vb_head.specs.declared.head.HeadRead.{HeadRead}
@@ -13,9 +16,23 @@ use Rattle.vb_head.specs.declared.head.State.{State}
 use Rattle.vb_head.specs.declared.head.State.TheVariants.{Closed, Opened, Rebuilding as IsBeingMade}
 use Rattle.vb_head.specs.Heads.{count_of, head_read}
 use Rattle.vb_journal.specs.declared.recover_error.RecoverError.{RecoverError}
-use Rattle.vb_journal.specs.declared.recover_error.RecoverError.TheVariants.{NotAStore, Damaged, Unfit, Rebuilding}
+use Rattle.vb_journal.specs.declared.recover_error.RecoverError.TheVariants.{NotAStore, Damaged, Unfit, Rebuilding, DiskFault, Memory}
 use Rattle.vb_journal.specs.Images.{slot_of}
 use Rattle.vb_journal.specs.Shown.{good_of, greater, image_over, pages_from}
+
+-- a call of the disk that failed
+abbrev pub error_from : DiskError → RecoverError
+error_from Failed = DiskFault
+error_from NoMemory = Memory
+
+-- whether the same call is made again after it
+abbrev pub is_retried : RecoverError → Bool
+is_retried (NotAStore place) = false
+is_retried (Damaged place kept found) = false
+is_retried (Unfit place why) = false
+is_retried Rebuilding = false
+is_retried DiskFault = true
+is_retried Memory = true
 
 -- the one refusal, and where there is none the other
 abbrev pub or_refusal : Option RecoverError → Option RecoverError → Option RecoverError
@@ -83,6 +100,35 @@ fitting_head size place head =
 abbrev pub head_among : ℕ → HeadRead → HeadRead → Option Head → Result Head RecoverError
 head_among size a b None = Err (headless a b)
 head_among size a b (Some head) = fitting_head size (greater_place (good_of a) (good_of b)) head
+
+-- whether two states are one
+abbrev pub is_same_state : State → State → Bool
+is_same_state Closed Closed = true
+is_same_state Closed (Opened n) = false
+is_same_state Closed IsBeingMade = false
+is_same_state (Opened m) Closed = false
+is_same_state (Opened m) (Opened n) = m == n
+is_same_state (Opened m) IsBeingMade = false
+is_same_state IsBeingMade Closed = false
+is_same_state IsBeingMade (Opened n) = false
+is_same_state IsBeingMade IsBeingMade = true
+
+-- whether two heads are one
+abbrev pub is_same_head : Head → Head → Bool
+is_same_head a b =
+    bytes_eq a.id b.id && a.blocks == b.blocks && a.nodes == b.nodes && a.sequence == b.sequence && a.epoch == b.epoch && is_same_state a.state b.state
+
+-- whether both places read as one head
+abbrev pub are_one_head : HeadRead → HeadRead → Bool
+are_one_head (Good a) (Good b) = is_same_head a b
+are_one_head (Good a) (Bad why) = false
+are_one_head (Good a) Alien = false
+are_one_head (Good a) (Unsealed kept found) = false
+are_one_head (Good a) Blank = false
+are_one_head (Bad why) b = false
+are_one_head Alien b = false
+are_one_head (Unsealed kept found) b = false
+are_one_head Blank b = false
 
 -- the least size of a disk that holds a store
 abbrev pub least_size : ℕ

@@ -1,5 +1,5 @@
 // A commit: node images go to the journal first, then the heads count them in, then they go home.
-ghost use Rattle.std.specs.Prelude.{◌≡◌, ℕ, List, ◌+◌, ◌*◌, ◌<◌, ◌≤◌, false, length, IfOk};
+ghost use Rattle.std.specs.Prelude.{◌≡◌, ℕ, List, ◌+◌, ◌*◌, ◌<◌, ◌≤◌, false, length, IfOk, OnErr, OnOk};
 ghost use Rattle.vb_disk.specs.Causes.{HasCause};
 ghost use Rattle.vb_disk.specs.States.{Write};
 ghost use Rattle.vb_head.specs.Heads.{IsInRange, head_page};
@@ -85,6 +85,8 @@ impl Commit {
         ensures head { head_of self.new ≡ head_of self.old }
         ensures epoch { epoch_of self.new ≡ epoch_of self.old }
         ensures images { images_of self.new ≡ images_of self.old }
+        ensures next { OnOk result (stage_of self.new ≡ next_stage (length (images_of self.old)) (stage_of self.old)) }
+        ensures stays { OnErr result (stage_of self.new ≡ stage_of self.old) }
         ensures seen { D.seen disk.new ≡ D.seen disk.old }
         ensures cause { HasCause DiskError.Failed (D.faults disk.old) (D.faults disk.new) result }
 
@@ -100,6 +102,13 @@ impl Commit {
             Ok(()) => Ok(self.advance()),
             Err(error) => Err(error),
         }
+    }
+
+    /// Its images.
+    pub(crate) fn images(&self) -> &Images
+        ensures { result.now ≡ images_of self.now }
+    {
+        &self.images
     }
 
     // Goes on to the stage after the call that was made, and says what the step answers.

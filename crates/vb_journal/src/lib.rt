@@ -1,14 +1,23 @@
 // The journal: how a store moves from one set of node images to another, so that a crash shows the one or the other.
 #![tactic(auto)]
 
+mod choice;
 mod commit;
 mod commit_stage;
 mod crashes;
+mod journal;
+mod mending;
+mod recover;
 mod recover_error;
+mod recover_stage;
+mod recovering;
+mod refusal;
+mod replay;
 
 pub use commit::{Commit, Images};
 pub use commit_stage::{CommitStep, Stage, Turn};
 pub use crashes::{a_rested_commit_is_at_rest, damage_leaves_a_commit, each_crash_shows};
+pub use recover::{Ahead, Recover};
 pub use recover_error::RecoverError;
 pub use vb_head::{Head, HeadRead, State, read_head, write_head};
 

@@ -1,5 +1,9 @@
 // Why a store can't be recovered.
+ghost use Rattle.std.specs.Prelude.{◌≡◌};
+ghost use Rattle.vb_journal.specs.Recoveries.{error_from};
+
 use vb_block::{Digest, Why};
+use vb_disk::DiskError;
 
 /// Why a store can't be recovered, or not yet.
 #[derive(Clone, Copy, Debug, PartialEq, Eq)]
@@ -25,4 +29,15 @@ pub enum RecoverError {
     DiskFault,
     /// No memory was found. The next step makes the same call again.
     Memory,
+}
+
+impl From<DiskError> for RecoverError {
+    ghost from_gives = { λ error e. e ≡ error_from error };
+
+    fn from(error: DiskError) -> Self {
+        match error {
+            DiskError::Failed => RecoverError::DiskFault,
+            DiskError::Memory => RecoverError::Memory,
+        }
+    }
 }

@@ -1,0 +1,33 @@
+use Rattle.std.proofs.Common.{◌≡◌, Bool, cond, false, None, sym, subst}
+use Rattle.vb_journal.specs.declared.recover.Ahead.{Ahead}
+use Rattle.vb_journal.specs.declared.recover_stage.RecoverStage.{RecoverStage}
+use Rattle.vb_journal.specs.Recovering.{MakesCall, IsRecovering, TakesImage, due_of, images_by, is_refused}
+use Rattle.vb_journal.specs.Recovers.{AnswersRecovery, IsAheadOf, Lends, last_of}
+use Rattle.vb_journal.proofs.Answering.{ahead-of, ahead_ok, answers-ok, lends-taken, makes-ok, on-ok}
+use Rattle.vb_journal.proofs.recover.Recover.step.Goals as goal
+
+pub returns-in-Ok-clause-calls : goal.returns-in-Ok-clause-calls
+returns-in-Ok-clause-calls g c =
+    let Q : RecoverStage → Type 0 = λ s. MakesCall (due_of s) (g.D.Disk.told c.args.disk.now) (g.D.Disk.told c.step_from-stage.new.disk) (ahead_ok c.ahead-ahead.result) in
+    subst Q c.replace-stage.ensures.value (makes-ok (due_of c.replace-stage.result) (g.D.Disk.told c.args.disk.now) (g.D.Disk.told c.step_from-stage.new.disk) c.step_from-stage.result.1 c.in-Ok.field-0 c.ahead-ahead.result c.in-Ok.is c.step_from-stage.ensures.makes)
+
+pub returns-in-Ok-clause-ahead : goal.returns-in-Ok-clause-ahead
+returns-in-Ok-clause-ahead g c =
+    let going : is_refused c.step_from-stage.result.0 ≡ false = on-ok _ c.step_from-stage.result.1 c.in-Ok.field-0 c.in-Ok.is c.step_from-stage.ensures.going in
+    let Q : Ahead → Type 0 = λ a. IsAheadOf a c.step_from-stage.result.0 in
+    subst Q (sym c.ahead-ahead.ensures) (ahead-of c.step_from-stage.result.0 going)
+
+pub returns-in-Ok-clause-image : goal.returns-in-Ok-clause-image
+returns-in-Ok-clause-image g c =
+    let taken : TakesImage c.replace-stage.result c.step_from-stage.result.0 (g.D.Disk.told c.args.disk.now) = on-ok _ c.step_from-stage.result.1 c.in-Ok.field-0 c.in-Ok.is c.step_from-stage.ensures.image in
+    let Q : RecoverStage → Type 0 = λ s. Lends s (cond c.reads_image-reads_image.result (last_of (images_by c.step_from-stage.result.0)) None) (g.D.Disk.told c.args.disk.now) in
+    let R : Bool → Type 0 = λ b. Lends c.replace-stage.result (cond b (last_of (images_by c.step_from-stage.result.0)) None) (g.D.Disk.told c.args.disk.now) in
+    subst Q c.replace-stage.ensures.value (subst R (sym c.reads_image-reads_image.ensures) (lends-taken c.replace-stage.result c.step_from-stage.result.0 (g.D.Disk.told c.args.disk.now) taken))
+
+pub returns-in-Ok-clause-answer : goal.returns-in-Ok-clause-answer
+returns-in-Ok-clause-answer g c begun d told is =
+    let going : is_refused c.step_from-stage.result.0 ≡ false = on-ok _ c.step_from-stage.result.1 c.in-Ok.field-0 c.in-Ok.is c.step_from-stage.ensures.going in
+    let Q : RecoverStage → Type 0 = λ s. IsRecovering s begun d in
+    let steps = c.step_from-stage.ensures.known begun d told (subst Q (sym c.replace-stage.ensures.value) is) in
+    let R : Ahead → Type 0 = λ a. AnswersRecovery begun c.step_from-stage.result.0 (ahead_ok a) in
+    subst R (sym c.ahead-ahead.ensures) (answers-ok begun steps.next c.step_from-stage.result.0 going steps.known)

@@ -1,0 +1,327 @@
+-- How far a recovery has come, which call of its disk is due, and what is known of the disk.
+use Rattle.std.specs.Prelude.{◌≡◌, ◌⊎◌, ℕ, suc, ◌+◌, ◌-◌, ◌<◌, ◌≤◌, ◌==◌, if◌then◌else◌, Bool, true, false, List, [], ◌∷◌, ◌++◌, length, replicate, Option, Some, None, Result, Ok, Err, OnOk, IsErrOf}
+use Rattle.vb_disk.specs.declared.cell.Cell.{Cell}
+use Rattle.vb_disk.specs.Cells.{candidate_at, synced_cell}
+use Rattle.vb_disk.specs.Crashes.{MayCrashTo}
+use Rattle.vb_disk.specs.Moments.{EachMoment}
+use Rattle.vb_disk.specs.States.{DiskState, DiskCall, Write, Sync, IsDiskState, after_call, read_at}
+use Rattle.vb_head.specs.declared.head.Head.{Head}
+use Rattle.vb_head.specs.declared.head.HeadRead.TheVariants.{Good}
+use Rattle.vb_head.specs.declared.head.State.TheVariants.{Closed}
+use Rattle.vb_head.specs.Heads.{IsHead, head_page, head_read}
+use Rattle.vb_journal.specs.declared.commit_stage.Stage.{Stage}
+use Rattle.vb_journal.specs.declared.commit_stage.Stage.TheVariants.{Journal, Opening, Homes, Closing, Rested}
+use Rattle.vb_journal.specs.declared.journal.Journal.{Journal as JournalRead}
+use Rattle.vb_journal.specs.declared.mending.FirstRead.{FirstRead}
+use Rattle.vb_journal.specs.declared.recover_error.RecoverError.{RecoverError}
+use Rattle.vb_journal.specs.declared.recover_error.RecoverError.TheVariants.{NotAStore, Damaged, Unfit, Rebuilding, DiskFault, Memory}
+use Rattle.vb_journal.specs.declared.recover_stage.RecoverStage.{RecoverStage}
+use Rattle.vb_journal.specs.declared.recover_stage.RecoverStage.TheVariants.{Ask, Settle, ReadFirst, ReadSecond, Mend, SettleMend, ReadImage, Replay, Ready, Refused}
+use Rattle.vb_journal.specs.Calls.{MayFailTo}
+use Rattle.vb_journal.specs.Commits.{calls_left, epoch_of, head_of, images_of, stage_of}
+use Rattle.vb_journal.specs.Images.{image_at, slot_of}
+use Rattle.vb_journal.specs.Plans.{opened_head}
+use Rattle.vb_journal.specs.Progress.{IsCommitting, IsUnnamed}
+use Rattle.vb_journal.specs.Recoveries.{Recovered, choice_of, images_refusal, journal_of, journal_place, journal_refusal, node_image, recovery_of, settled_head}
+use Rattle.vb_journal.specs.Shown.{pages_from}
+
+-- ---- its calls
+
+-- a call of a recovery
+pub data RecoverCall : Type 0 where
+  AskSize : RecoverCall
+  ReadPlace : (place : ℕ) → RecoverCall
+  Change : (call : DiskCall) → RecoverCall
+
+-- the first of some calls
+abbrev pub first_change : List DiskCall → Option RecoverCall
+first_change [] = None
+first_change (call ∷ calls) = Some (Change call)
+
+-- the call that is due at a stage: the size, a sync, both heads, the head that counts over the other one and a sync,
+-- each image of the journal, and what is left of its commit. None is due at the end.
+abbrev pub due_of : RecoverStage → Option RecoverCall
+due_of Ask = Some AskSize
+due_of (Settle size) = Some (Change Sync)
+due_of (ReadFirst size) = Some (ReadPlace 0)
+due_of (ReadSecond first) = Some (ReadPlace 1)
+due_of (Mend mending) = Some (Change (Write mending.place (head_page mending.head)))
+due_of (SettleMend mending) = Some (Change Sync)
+due_of (ReadImage journal) = Some (ReadPlace (journal_place journal.head + length journal.images))
+due_of (Replay replay) = first_change (calls_left replay.commit)
+due_of (Ready head) = None
+due_of (Refused refusal) = None
+
+-- a call that changes a disk was made at Ok, and was not for want of memory
+pub record Changes {T : Type 0} (call : DiskCall) (old new : Option DiskState) (result : Result T RecoverError) : Type 0 where
+  pub made : (d : DiskState) → old ≡ Some d → OnOk result (new ≡ Some (after_call d call))
+  pub failed : (d : DiskState) → old ≡ Some d → IsErrOf result DiskFault → MayFailTo call d new
+  pub memory : IsErrOf result Memory → new ≡ old
+  pub untold : old ≡ None → new ≡ None
+
+-- this call and no other was made, or failed
+abbrev pub MakesCall : {T : Type 0} → Option RecoverCall → Option DiskState → Option DiskState → Result T RecoverError → Type 0
+MakesCall None old new result = new ≡ old
+MakesCall (Some AskSize) old new result = new ≡ old
+MakesCall (Some (ReadPlace place)) old new result = new ≡ old
+MakesCall (Some (Change call)) old new result = Changes call old new result
+
+-- the images of the journal that were read
+abbrev pub images_by : RecoverStage → List (List ℕ)
+images_by Ask = []
+images_by (Settle size) = []
+images_by (ReadFirst size) = []
+images_by (ReadSecond first) = []
+images_by (Mend mending) = []
+images_by (SettleMend mending) = []
+images_by (ReadImage journal) = journal.images
+images_by (Replay replay) = images_of replay.commit
+images_by (Ready head) = []
+images_by (Refused refusal) = []
+
+-- the seen size stands, unless it was asked
+abbrev pub SeenStays : Option RecoverCall → ℕ → ℕ → Type 0
+SeenStays None old new = new ≡ old
+SeenStays (Some AskSize) old new = Unit {0}
+SeenStays (Some (ReadPlace place)) old new = new ≡ old
+SeenStays (Some (Change call)) old new = new ≡ old
+
+-- an image of the journal was taken: what stands at its place, where the disk tells
+abbrev pub TakesImage : RecoverStage → RecoverStage → Option DiskState → Type 0
+TakesImage Ask new told = Unit {0}
+TakesImage (Settle size) new told = Unit {0}
+TakesImage (ReadFirst size) new told = Unit {0}
+TakesImage (ReadSecond first) new told = Unit {0}
+TakesImage (Mend mending) new told = Unit {0}
+TakesImage (SettleMend mending) new told = Unit {0}
+TakesImage (ReadImage journal) new told =
+    (page : List ℕ) × (images_by new ≡ journal.images ++ page ∷ [])
+    × ((d : DiskState) → told ≡ Some d → page ≡ read_at d (journal_place journal.head + length journal.images))
+TakesImage (Replay replay) new told = Unit {0}
+TakesImage (Ready head) new told = Unit {0}
+TakesImage (Refused refusal) new told = Unit {0}
+
+-- the size of the disk as far as the recovery relies on it
+abbrev pub blocks_of : RecoverStage → ℕ
+blocks_of Ask = 0
+blocks_of (Settle size) = size.places
+blocks_of (ReadFirst size) = size.places
+blocks_of (ReadSecond first) = first.size.places
+blocks_of (Mend mending) = mending.head.blocks
+blocks_of (SettleMend mending) = mending.head.blocks
+blocks_of (ReadImage journal) = journal.head.blocks
+blocks_of (Replay replay) = (head_of replay.commit).blocks
+blocks_of (Ready head) = 0
+blocks_of (Refused refusal) = 0
+
+-- the stage is the end, with this refusal
+abbrev pub IsRefused : RecoverStage → RecoverError → Type 0
+IsRefused Ask error = ⊥
+IsRefused (Settle size) error = ⊥
+IsRefused (ReadFirst size) error = ⊥
+IsRefused (ReadSecond first) error = ⊥
+IsRefused (Mend mending) error = ⊥
+IsRefused (SettleMend mending) error = ⊥
+IsRefused (ReadImage journal) error = ⊥
+IsRefused (Replay replay) error = ⊥
+IsRefused (Ready head) error = ⊥
+IsRefused (Refused refusal) error = refusal.error ≡ error
+
+-- whether the stage is the end, with a refusal
+abbrev pub is_refused : RecoverStage → Bool
+is_refused Ask = false
+is_refused (Settle size) = false
+is_refused (ReadFirst size) = false
+is_refused (ReadSecond first) = false
+is_refused (Mend mending) = false
+is_refused (SettleMend mending) = false
+is_refused (ReadImage journal) = false
+is_refused (Replay replay) = false
+is_refused (Ready head) = false
+is_refused (Refused refusal) = true
+
+-- after a fault and for want of memory the same call is due, and else the recovery has ended with this error
+abbrev pub StandsAfter : RecoverStage → RecoverStage → RecoverError → Type 0
+StandsAfter old new (NotAStore place) = IsRefused new (NotAStore place)
+StandsAfter old new (Damaged place kept found) = IsRefused new (Damaged place kept found)
+StandsAfter old new (Unfit place why) = IsRefused new (Unfit place why)
+StandsAfter old new Rebuilding = IsRefused new Rebuilding
+StandsAfter old new DiskFault = due_of new ≡ due_of old
+StandsAfter old new Memory = due_of new ≡ due_of old
+
+-- ---- what is known of its disk
+
+-- what reads of a disk give
+abbrev pub reads_of : DiskState → ℕ → List ℕ
+reads_of d = λ place. read_at d place
+
+-- what a disk recovers to
+abbrev pub recovery_on : DiskState → Result Recovered RecoverError
+recovery_on d = recovery_of d.size (reads_of d)
+
+-- the newest candidate of a place
+abbrev pub newest_of : Cell → List ℕ
+newest_of cell = candidate_at cell (length cell.later)
+
+-- a whole place with one candidate
+abbrev pub whole_cell : List ℕ → Cell
+whole_cell page = record { first = page; later = []; hurt = None }
+
+-- the places from this one on stand as they did when the recovery began, but for a sync
+pub record StandsFrom (place : ℕ) (begun d : DiskState) : Type 0 where
+  pub is : IsDiskState begun
+  pub size : d.size ≡ begun.size
+  pub each : (other : ℕ) → place ≤ other → d.cells other ≡ synced_cell (begun.cells other)
+
+-- the first head was read, and is the one page of its head where it is one
+pub record HasReadFirst (begun : DiskState) (first : FirstRead) (d : DiskState) : Type 0 where
+  pub stands : StandsFrom 0 begun d
+  pub size : first.size.places ≡ begun.size
+  pub read : first.read ≡ head_read (read_at begun 0)
+  pub spelled : (h : Head) → first.read ≡ Good h → read_at begun 0 ≡ head_page h
+
+-- this head counts, and both copies are whole
+pub record HasBothHeads (begun : DiskState) (head : Head) (d : DiskState) : Type 0 where
+  pub stands : StandsFrom 2 begun d
+  pub is : IsHead head
+  pub counts : choice_of begun.size (reads_of begun) ≡ Ok head
+  pub first : d.cells 0 ≡ whole_cell (head_page head)
+  pub second : d.cells 1 ≡ whole_cell (head_page head)
+
+-- the head that counts was written over this place, once or more often
+abbrev pub IsMended : DiskState → Head → ℕ → Cell → Type 0
+IsMended begun head place cell =
+    (times : ℕ) × (cell ≡ record { first = newest_of (begun.cells place); later = replicate (suc times) (head_page head); hurt = None })
+
+-- so it was, or the place stands
+abbrev pub MayBeMended : DiskState → Head → ℕ → Cell → Type 0
+MayBeMended begun head place cell = (cell ≡ synced_cell (begun.cells place)) ⊎ IsMended begun head place cell
+
+-- this head counts, its place is whole, and the other one has come so far
+pub record IsMending (begun : DiskState) (head : Head) (place : ℕ) (Other : DiskState → Head → ℕ → Cell → Type 0) (d : DiskState) : Type 0 where
+  pub stands : StandsFrom 2 begun d
+  pub counts : choice_of begun.size (reads_of begun) ≡ Ok head
+  pub was : read_at begun (1 - place) ≡ head_page head
+  pub here : d.cells (1 - place) ≡ whole_cell (head_page head)
+  pub other : Other begun head place (d.cells place)
+
+-- the images were read and aren't refused
+pub record HasRead (begun : DiskState) (journal : JournalRead) (d : DiskState) : Type 0 where
+  pub heads : HasBothHeads begun journal.head d
+  pub images : journal.images ≡ pages_from (reads_of begun) (journal_place journal.head) (length journal.images)
+  pub accepted : images_refusal journal.head.nodes (journal_place journal.head) [] journal.images ≡ None
+
+-- what stood at the homes and in the journal when the recovery began
+abbrev pub homes_of : DiskState → ℕ → List ℕ
+homes_of begun = λ slot. newest_of (begun.cells (2 + slot))
+
+abbrev pub images_in : DiskState → Head → ℕ → List ℕ
+images_in begun head = λ i. newest_of (begun.cells (journal_place head + i))
+
+-- a home is whole at a stage of the commit, where its image was written
+abbrev pub IsHomeWhole : ℕ → Stage → Cell → Type 0
+IsHomeWhole i (Journal next) cell = ⊥
+IsHomeWhole i (Opening turn) cell = ⊥
+IsHomeWhole i (Homes next) cell = i < next → cell.hurt ≡ None
+IsHomeWhole i (Closing turn) cell = cell.hurt ≡ None
+IsHomeWhole i Rested cell = cell.hurt ≡ None
+
+-- what stands besides the candidates of a commit: both copies of the head are whole, and so is each home that was
+-- written; each other place is as it was when the recovery began, but for a sync
+pub record HasWholePlaces (begun : DiskState) (before : Head) (images : List (List ℕ)) (stage : Stage) (d : DiskState) : Type 0 where
+  pub size : d.size ≡ begun.size
+  pub first : (d.cells 0).hurt ≡ None
+  pub second : (d.cells 1).hurt ≡ None
+  pub homes : (i : ℕ) → i < length images → IsHomeWhole i stage (d.cells (2 + slot_of (image_at images i)))
+  pub homes_stand : (slot : ℕ) → slot < before.nodes → IsUnnamed images slot → d.cells (2 + slot) ≡ synced_cell (begun.cells (2 + slot))
+  pub others_stand : (place : ℕ) → journal_place before ≤ place → d.cells place ≡ synced_cell (begun.cells place)
+
+-- a commit whose journal was read goes on, at a stage
+pub record IsReplaying (begun : DiskState) (before : Head) (epoch : ℕ) (images : List (List ℕ)) (stage : Stage) (d : DiskState) : Type 0 where
+  pub is : IsHead (opened_head before epoch images)
+  pub counts : choice_of begun.size (reads_of begun) ≡ Ok (opened_head before epoch images)
+  pub images_are : journal_of (reads_of begun) (opened_head before epoch images) ≡ images
+  pub accepted : journal_refusal (reads_of begun) (opened_head before epoch images) ≡ None
+  pub known : IsCommitting before epoch images (homes_of begun) (images_in begun before) stage d
+  pub whole : HasWholePlaces begun before images stage d
+
+-- the store was recovered: both copies are the head that recovery leaves where this one was chosen, and each home is
+-- settled and reads as the image of its node
+pub record IsRecovered (begun : DiskState) (head : Head) (d : DiskState) : Type 0 where
+  pub chosen : Head
+  pub counts : choice_of begun.size (reads_of begun) ≡ Ok chosen
+  pub accepted : journal_refusal (reads_of begun) chosen ≡ None
+  pub settles : settled_head chosen ≡ head
+  pub is : IsHead head
+  pub closed : head.state ≡ Closed
+  pub size : d.size ≡ begun.size
+  pub first : d.cells 0 ≡ whole_cell (head_page head)
+  pub second : d.cells 1 ≡ whole_cell (head_page head)
+  pub homes : (slot : ℕ) → slot < head.nodes → read_at d (2 + slot) ≡ node_image (reads_of begun) chosen slot
+  pub settled : (slot : ℕ) → slot < head.nodes → (d.cells (2 + slot)).later ≡ []
+  pub others_stand : (place : ℕ) → journal_place head ≤ place → d.cells place ≡ synced_cell (begun.cells place)
+
+-- a crash of the disk leaves one that recovers to the same
+abbrev pub RecoversAfter : DiskState → DiskState → Type 0
+RecoversAfter begun d = (new : DiskState) → MayCrashTo d new → recovery_on new ≡ recovery_on begun
+
+-- the store can't be recovered, also after a crash
+pub record IsHopeless (begun : DiskState) (error : RecoverError) (d : DiskState) : Type 0 where
+  pub recovery : recovery_on begun ≡ Err error
+  pub crashes : RecoversAfter begun d
+
+-- what is known at each stage of the disk, by what it was when the recovery began
+abbrev pub IsRecovering : RecoverStage → DiskState → DiskState → Type 0
+IsRecovering Ask begun d = d ≡ begun
+IsRecovering (Settle size) begun d = (d ≡ begun) × IsDiskState begun × (size.places ≡ begun.size)
+IsRecovering (ReadFirst size) begun d = StandsFrom 0 begun d × (size.places ≡ begun.size)
+IsRecovering (ReadSecond first) begun d = HasReadFirst begun first d
+IsRecovering (Mend mending) begun d = IsMending begun mending.head mending.place MayBeMended d
+IsRecovering (SettleMend mending) begun d = IsMending begun mending.head mending.place IsMended d
+IsRecovering (ReadImage journal) begun d = HasRead begun journal d
+IsRecovering (Replay replay) begun d = IsReplaying begun (head_of replay.commit) (epoch_of replay.commit) (images_of replay.commit) (stage_of replay.commit) d
+IsRecovering (Ready head) begun d = IsRecovered begun head d
+IsRecovering (Refused refusal) begun d = IsHopeless begun refusal.error d
+
+-- ---- what crashes leave
+
+-- what reads give, were this place whole
+abbrev pub reads_whole : DiskState → ℕ → ℕ → List ℕ
+reads_whole d place = λ other. if other == place then newest_of (d.cells other) else read_at d other
+
+-- the place was hurt, and it recovers to what it would have, were that place whole
+pub record RecoversWhole (begun : DiskState) (place : ℕ) (new : DiskState) : Type 0 where
+  pub bytes : List ℕ
+  pub hurt : (begun.cells place).hurt ≡ Some bytes
+  pub recovers : recovery_on new ≡ recovery_of begun.size (reads_whole begun place)
+
+-- what a disk recovers to that a crash leaves at a stage. Up to the first sync nothing was changed. From then on it is
+-- what the recovery began with, or, while the other head is mended that was hurt, what that one would have given.
+abbrev pub MayRecover : RecoverStage → DiskState → DiskState → Type 0
+MayRecover Ask begun new = MayCrashTo begun new
+MayRecover (Settle size) begun new = MayCrashTo begun new ⊎ (recovery_on new ≡ recovery_on begun)
+MayRecover (ReadFirst size) begun new = recovery_on new ≡ recovery_on begun
+MayRecover (ReadSecond first) begun new = recovery_on new ≡ recovery_on begun
+MayRecover (Mend mending) begun new = (recovery_on new ≡ recovery_on begun) ⊎ RecoversWhole begun mending.place new
+MayRecover (SettleMend mending) begun new = (recovery_on new ≡ recovery_on begun) ⊎ RecoversWhole begun mending.place new
+MayRecover (ReadImage journal) begun new = recovery_on new ≡ recovery_on begun
+MayRecover (Replay replay) begun new = recovery_on new ≡ recovery_on begun
+MayRecover (Ready head) begun new = recovery_on new ≡ recovery_on begun
+MayRecover (Refused refusal) begun new = recovery_on new ≡ recovery_on begun
+
+-- after each crash of the disk
+abbrev pub EachRecovers : RecoverStage → DiskState → DiskState → Type 0
+EachRecovers stage begun d = (new : DiskState) → MayCrashTo d new → MayRecover stage begun new
+
+-- what a step leaves of a disk that is known at its stage: one that is known at the stage after it, and each crash
+-- within the step leaves what the stage before it says
+pub record RecoversTo (begun : DiskState) (before after : RecoverStage) (d : DiskState) (new : Option DiskState) : Type 0 where
+  pub next : DiskState
+  pub told : new ≡ Some next
+  pub known : IsRecovering after begun next
+  pub crashes : EachMoment (EachRecovers before begun) d next
+
+-- so does each step of a disk that is known at its stage
+abbrev pub RecoversOn : RecoverStage → RecoverStage → Option DiskState → Option DiskState → Type 0
+RecoversOn before after old new =
+    (begun d : DiskState) → old ≡ Some d → IsRecovering before begun d → RecoversTo begun before after d new

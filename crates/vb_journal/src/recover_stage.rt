@@ -1,0 +1,74 @@
+// How far a recovery has come.
+ghost use Rattle.std.specs.Prelude.{◌≡◌, Some};
+ghost use Rattle.std.specs.Option.{option_copied};
+ghost use Rattle.vb_journal.specs.Recovers.{ahead_at, is_reading, last_of};
+ghost use Rattle.vb_journal.specs.Recovering.{images_by};
+
+use crate::journal::Journal;
+use crate::mending::{FirstRead, Mending, StoreSize};
+use crate::refusal::Refusal;
+use crate::replay::Replay;
+use crate::{Ahead, Head, Images};
+use vb_block::Page;
+
+/// Which call of a recovery is due.
+#[derive(Drop)]
+pub(crate) enum RecoverStage {
+    /// The size of the disk.
+    Ask,
+    /// A sync, so that what reads give stands.
+    Settle(StoreSize),
+    /// A read of the first head.
+    ReadFirst(StoreSize),
+    /// A read of the second one.
+    ReadSecond(FirstRead),
+    /// A write of the head that counts over the other one.
+    Mend(Mending),
+    /// A sync after it.
+    SettleMend(Mending),
+    /// A read of the next image of the journal.
+    ReadImage(Journal),
+    /// The next call of the commit that the journal belongs to, from its homes on.
+    Replay(Replay),
+    /// None: the store has this head.
+    Ready(Head),
+    /// None: it can't be recovered.
+    Refused(Refusal),
+}
+
+impl RecoverStage {
+    /// Whether a call is left.
+    pub(crate) fn ahead(&self) -> Ahead
+        ensures { result ≡ ahead_at self.now }
+    {
+        match self {
+            RecoverStage::Ready(_) | RecoverStage::Refused(_) => Ahead::Ready,
+            _ => Ahead::More,
+        }
+    }
+
+    /// Whether an image of the journal is to be read.
+    pub(crate) fn reads_image(&self) -> bool
+        ensures { result ≡ is_reading self.now }
+    {
+        matches!(self, RecoverStage::ReadImage(_))
+    }
+
+    /// The image of the journal that was read last.
+    pub(crate) fn last_image(&self) -> Option<&Page>
+        ensures { option_copied result ≡ last_of (images_by self.now) }
+    {
+        match self {
+            RecoverStage::ReadImage(journal) => last_image(&journal.images),
+            RecoverStage::Replay(replay) => last_image(replay.commit.images()),
+            _ => None,
+        }
+    }
+}
+
+// The last of some images.
+fn last_image(images: &Images) -> Option<&Page>
+    ensures { option_copied result ≡ last_of images.now }
+{
+    images.slice().last()
+}
