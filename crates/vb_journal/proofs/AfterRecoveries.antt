@@ -16,7 +16,8 @@ use Rattle.vb_journal.specs.Images.{AreImages, image_at, slot_of}
 use Rattle.vb_journal.specs.Plans.{closed_head, opened_head}
 use Rattle.vb_journal.specs.Progress.{Fixed, Has, IsUnnamed, Trying}
 use Rattle.vb_journal.specs.Recoveries.{Recovered, choice_of, images_refusal, is_rebuilding, journal_of, journal_place, journal_refusal, node_image, node_images, recovered_from, recovery_of, settled_from, settled_head}
-use Rattle.vb_journal.specs.Recovering.{EachRecovers, IsRecovered, IsRecovering, IsReplaying, StandsFrom, reads_of, recovery_on}
+use Rattle.vb_journal.specs.Outcomes.{reads_of, recovery_on}
+use Rattle.vb_journal.specs.Recovering.{EachRecovers, IsRecovered, IsRecovering, IsReplaying, StandsFrom}
 use Rattle.vb_journal.specs.Replays.{is_late}
 use Rattle.vb_journal.specs.Shown.{good_of, greater, image_over, pages_from}
 use Rattle.vb_journal.proofs.Choices.{IsChosen-from, head_choice-chosen}

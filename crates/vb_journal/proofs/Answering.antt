@@ -10,7 +10,8 @@ use Rattle.vb_journal.specs.declared.recover_stage.RecoverStage.{RecoverStage}
 use Rattle.vb_journal.specs.declared.recover_stage.RecoverStage.TheVariants.{Ask, Settle, ReadFirst, ReadSecond, Mend, SettleMend, ReadImage, Replay, Ready, Refused}
 use Rattle.vb_journal.specs.Commits.{calls_left}
 use Rattle.vb_journal.specs.Recoveries.{Recovered, node_images, recovered_from, settled_head}
-use Rattle.vb_journal.specs.Recovering.{AskSize, Change, IsRecovered, IsRecovering, MakesCall, ReadPlace, RecoverCall, TakesImage, first_change, images_by, is_refused, reads_of}
+use Rattle.vb_journal.specs.Outcomes.{reads_of}
+use Rattle.vb_journal.specs.Recovering.{AskSize, Change, IsRecovered, IsRecovering, MakesCall, ReadPlace, RecoverCall, TakesImage, first_change, images_by, is_refused}
 use Rattle.vb_journal.specs.Recovers.{AnswersRecovery, HasHead, IsAheadOf, Lends, ahead_at, is_reading, last_of}
 use Rattle.vb_journal.proofs.PlanSteps.{calls_from-next}
 use Rattle.vb_journal.proofs.Replays.{late-going}

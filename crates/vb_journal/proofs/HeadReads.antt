@@ -17,7 +17,8 @@ use Rattle.vb_journal.specs.declared.mending.FirstRead.{FirstRead}
 use Rattle.vb_journal.specs.declared.recover_error.RecoverError.{RecoverError}
 use Rattle.vb_journal.specs.declared.recover_error.RecoverError.TheVariants.{NotAStore}
 use Rattle.vb_journal.specs.Recoveries.{choice_of, greater_place, head_among, head_choice, recovery_of}
-use Rattle.vb_journal.specs.Recovering.{HasBothHeads, HasReadFirst, IsHopeless, IsMending, MayBeMended, StandsFrom, reads_of, recovery_on, whole_cell}
+use Rattle.vb_journal.specs.Outcomes.{reads_of, recovery_on}
+use Rattle.vb_journal.specs.Recovering.{HasBothHeads, HasReadFirst, IsHopeless, IsMending, MayBeMended, StandsFrom, whole_cell}
 use Rattle.vb_journal.specs.Shown.{good_of, greater}
 use Rattle.vb_journal.proofs.Choices.{IsChosen-from, chosen, good-from_good_of, greater-stands, refused}
 use Rattle.vb_journal.proofs.Mended.{whole-from_read}

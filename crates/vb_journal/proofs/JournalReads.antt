@@ -10,7 +10,8 @@ use Rattle.vb_journal.specs.declared.journal.Journal.{Journal}
 use Rattle.vb_journal.specs.declared.recover_error.RecoverError.{RecoverError}
 use Rattle.vb_journal.specs.Images.{image_at}
 use Rattle.vb_journal.specs.Recoveries.{image_refusal, images_refusal, journal_of, journal_place, journal_refusal, or_refusal, recovered_from}
-use Rattle.vb_journal.specs.Recovering.{HasBothHeads, HasRead, IsHopeless, reads_of}
+use Rattle.vb_journal.specs.Outcomes.{reads_of}
+use Rattle.vb_journal.specs.Recovering.{HasBothHeads, HasRead, IsHopeless}
 use Rattle.vb_journal.specs.Shown.{pages_from}
 use Rattle.vb_journal.proofs.Mended.{crashed-both}
 use Rattle.vb_journal.proofs.SameRecoveries.{recovery_of-chosen}

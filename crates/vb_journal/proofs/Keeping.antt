@@ -1,5 +1,5 @@
 -- Each call of a commit keeps what is known of its places.
-use Rattle.std.proofs.Common.{◌≡◌, ◌≢◌, ℕ, ◌+◌, ◌<◌, ◌≤◌, Bool, true, false, cond, eqb, ltb, List, length, refl, sym, subst, inl, inr, arith}
+use Rattle.std.proofs.Common.{◌≡◌, ◌≢◌, ℕ, ◌+◌, ◌*◌, ◌<◌, ◌≤◌, Bool, true, false, cond, eqb, ltb, List, length, refl, sym, ap, subst, ◌∙◌, inl, inr, arith}
 use Rattle.std.proofs.lemmas.Bool.{cases_eq, cases_lt, lt-ltb, le-ltb}
 use Rattle.vb_disk.specs.declared.cell.Cell.{Cell}
 use Rattle.vb_disk.specs.Cells.{candidates, hurt_cell, synced_cell}
@@ -11,9 +11,9 @@ use Rattle.vb_journal.specs.declared.commit_stage.Stage.{Stage}
 use Rattle.vb_journal.specs.declared.commit_stage.Stage.TheVariants.{Journal, Opening, Homes, Closing, Rested}
 use Rattle.vb_journal.specs.declared.commit_stage.Turn.TheVariants.{First, FirstSync, Second, SecondSync}
 use Rattle.vb_journal.specs.Images.{AreImages, image_at, slot_of}
-use Rattle.vb_journal.specs.Plans.{closed_head, due_call, is_rested, next_stage, opened_head}
-use Rattle.vb_journal.specs.Progress.{Fixed, Has, HaveSameCandidates, IsAtRest, IsCommitting, Tried, Trying, first_at, home_at, journal_at, passed_by, second_at}
-use Rattle.vb_journal.proofs.TriedCells.{Fixed-stays, Fixed-synced, Has-elsewhere, Has-here, Has-same, Trying-from_Fixed, Trying-from_Tried}
+use Rattle.vb_journal.specs.Plans.{CanFinish, closed_head, due_call, is_rested, next_stage, opened_head}
+use Rattle.vb_journal.specs.Progress.{Fixed, Has, HasSameCandidates, IsAtRest, IsCommitting, Tried, Trying, first_at, home_at, journal_at, passed_by, second_at}
+use Rattle.vb_journal.proofs.TriedCells.{Fixed-stays, Fixed-synced, Has-elsewhere, Has-here, Has-same, Trying-from_Fixed, Trying-from_Tried, written-elsewhere}
 
 -- ---- images that were passed by
 
@@ -68,6 +68,7 @@ keeps-journal head epoch images homes journal next d are left is =
     let before = head_page head in
     record {
       id = is.id;
+      size = is.size;
       first = Has-elsewhere (Fixed before) d place 0 page (λ same. omega arith) is.first;
       second = Has-elsewhere (Fixed before) d place 1 page (λ same. omega arith) is.second;
       in_journal = λ i within. elim (cases_eq i next) [
@@ -87,6 +88,7 @@ keeps-journal head epoch images homes journal next d are left is =
 pub retries-journal : (head : Head) (epoch : ℕ) (images : List (List ℕ)) (homes journal : ℕ → List ℕ) (next : ℕ) (d : DiskState) → IsCommitting head epoch images homes journal (Journal (next + 1)) d → IsCommitting head epoch images homes journal (Journal next) d
 retries-journal head epoch images homes journal next d is = record {
   id = is.id;
+  size = is.size;
   first = is.first;
   second = is.second;
   in_journal = λ i within. passed_less next i (journal i) (image_at images i) (d.cells (2 + head.nodes + i)) (is.in_journal i within);
@@ -101,6 +103,7 @@ syncs-journal head epoch images homes journal next d none is =
     let before = head_page head in
     record {
       id = is.id;
+      size = is.size;
       first = Trying-from_Fixed before (head_page (opened_head head epoch images)) (synced_cell (d.cells 0)) (Fixed-stays before (d.cells 0) is.first);
       second = Fixed-stays before (d.cells 1) is.second;
       in_journal = λ i within. Fixed-synced (journal i) (image_at images i) (d.cells (2 + head.nodes + i)) (passed_tried next i (journal i) (image_at images i) (d.cells (2 + head.nodes + i)) (omega arith) (is.in_journal i within));
@@ -119,6 +122,7 @@ keeps-homes head epoch images homes journal next d are left is =
     let here = are.slots next left in
     record {
       id = is.id;
+      size = is.size;
       first = Has-elsewhere (Fixed opened) d place 0 page (λ same. omega arith) is.first;
       second = Has-elsewhere (Fixed opened) d place 1 page (λ same. omega arith) is.second;
       in_journal = λ i within. Has-elsewhere (Fixed (image_at images i)) d place (2 + head.nodes + i) page (λ same. omega arith) (is.in_journal i within);
@@ -139,6 +143,7 @@ keeps-homes head epoch images homes journal next d are left is =
 pub retries-homes : (head : Head) (epoch : ℕ) (images : List (List ℕ)) (homes journal : ℕ → List ℕ) (next : ℕ) (d : DiskState) → IsCommitting head epoch images homes journal (Homes (next + 1)) d → IsCommitting head epoch images homes journal (Homes next) d
 retries-homes head epoch images homes journal next d is = record {
   id = is.id;
+  size = is.size;
   first = is.first;
   second = is.second;
   in_journal = is.in_journal;
@@ -152,6 +157,7 @@ syncs-homes head epoch images homes journal next d none is =
     let opened = head_page (opened_head head epoch images) in
     record {
       id = is.id;
+      size = is.size;
       first = Trying-from_Fixed opened (head_page (closed_head head epoch)) (synced_cell (d.cells 0)) (Fixed-stays opened (d.cells 0) is.first);
       second = Fixed-stays opened (d.cells 1) is.second;
       in_journal = λ i within. Fixed-stays (image_at images i) (d.cells (2 + head.nodes + i)) (is.in_journal i within);
@@ -167,6 +173,7 @@ writes-opening-first head epoch images homes journal d is =
     let page = head_page (opened_head head epoch images) in
     record {
       id = is.id;
+      size = is.size;
       first = Has-here (head_page head) page d 0 is.first;
       second = Has-elsewhere (Fixed (head_page head)) d 0 1 page (λ same. omega arith) is.second;
       in_journal = λ i within. Has-elsewhere (Fixed (image_at images i)) d 0 (2 + head.nodes + i) page (λ same. omega arith) (is.in_journal i within);
@@ -178,6 +185,7 @@ writes-opening-first head epoch images homes journal d is =
 pub retries-opening-first : (head : Head) (epoch : ℕ) (images : List (List ℕ)) (homes journal : ℕ → List ℕ) (d : DiskState) → IsCommitting head epoch images homes journal (Opening FirstSync) d → IsCommitting head epoch images homes journal (Opening First) d
 retries-opening-first head epoch images homes journal d is = record {
   id = is.id;
+  size = is.size;
   first = Trying-from_Tried (head_page head) (head_page (opened_head head epoch images)) (d.cells 0) is.first;
   second = is.second;
   in_journal = is.in_journal;
@@ -189,6 +197,7 @@ retries-opening-first head epoch images homes journal d is = record {
 pub syncs-opening-first : (head : Head) (epoch : ℕ) (images : List (List ℕ)) (homes journal : ℕ → List ℕ) (d : DiskState) → IsCommitting head epoch images homes journal (Opening FirstSync) d → IsCommitting head epoch images homes journal (Opening Second) (synced d)
 syncs-opening-first head epoch images homes journal d is = record {
   id = is.id;
+  size = is.size;
   first = Fixed-synced (head_page head) (head_page (opened_head head epoch images)) (d.cells 0) is.first;
   second = Trying-from_Fixed (head_page head) (head_page (opened_head head epoch images)) (synced_cell (d.cells 1)) (Fixed-stays (head_page head) (d.cells 1) is.second);
   in_journal = λ i within. Fixed-stays (image_at images i) (d.cells (2 + head.nodes + i)) (is.in_journal i within);
@@ -202,6 +211,7 @@ writes-opening-second head epoch images homes journal d is =
     let page = head_page (opened_head head epoch images) in
     record {
       id = is.id;
+      size = is.size;
       second = Has-here (head_page head) page d 1 is.second;
       first = Has-elsewhere (Fixed (head_page (opened_head head epoch images))) d 1 0 page (λ same. omega arith) is.first;
       in_journal = λ i within. Has-elsewhere (Fixed (image_at images i)) d 1 (2 + head.nodes + i) page (λ same. omega arith) (is.in_journal i within);
@@ -213,6 +223,7 @@ writes-opening-second head epoch images homes journal d is =
 pub retries-opening-second : (head : Head) (epoch : ℕ) (images : List (List ℕ)) (homes journal : ℕ → List ℕ) (d : DiskState) → IsCommitting head epoch images homes journal (Opening SecondSync) d → IsCommitting head epoch images homes journal (Opening Second) d
 retries-opening-second head epoch images homes journal d is = record {
   id = is.id;
+  size = is.size;
   second = Trying-from_Tried (head_page head) (head_page (opened_head head epoch images)) (d.cells 1) is.second;
   first = is.first;
   in_journal = is.in_journal;
@@ -224,6 +235,7 @@ retries-opening-second head epoch images homes journal d is = record {
 pub syncs-opening-second : (head : Head) (epoch : ℕ) (images : List (List ℕ)) (homes journal : ℕ → List ℕ) (d : DiskState) → IsCommitting head epoch images homes journal (Opening SecondSync) d → IsCommitting head epoch images homes journal (Homes 0) (synced d)
 syncs-opening-second head epoch images homes journal d is = record {
   id = is.id;
+  size = is.size;
   first = Fixed-stays (head_page (opened_head head epoch images)) (d.cells 0) is.first;
   second = Fixed-synced (head_page head) (head_page (opened_head head epoch images)) (d.cells 1) is.second;
   in_journal = λ i within. Fixed-stays (image_at images i) (d.cells (2 + head.nodes + i)) (is.in_journal i within);
@@ -239,6 +251,7 @@ writes-closing-first head epoch images homes journal d is =
     let page = head_page (closed_head head epoch) in
     record {
       id = is.id;
+      size = is.size;
       first = Has-here (head_page (opened_head head epoch images)) page d 0 is.first;
       second = Has-elsewhere (Fixed (head_page (opened_head head epoch images))) d 0 1 page (λ same. omega arith) is.second;
       in_journal = λ i within. Has-elsewhere (Fixed (image_at images i)) d 0 (2 + head.nodes + i) page (λ same. omega arith) (is.in_journal i within);
@@ -250,6 +263,7 @@ writes-closing-first head epoch images homes journal d is =
 pub retries-closing-first : (head : Head) (epoch : ℕ) (images : List (List ℕ)) (homes journal : ℕ → List ℕ) (d : DiskState) → IsCommitting head epoch images homes journal (Closing FirstSync) d → IsCommitting head epoch images homes journal (Closing First) d
 retries-closing-first head epoch images homes journal d is = record {
   id = is.id;
+  size = is.size;
   first = Trying-from_Tried (head_page (opened_head head epoch images)) (head_page (closed_head head epoch)) (d.cells 0) is.first;
   second = is.second;
   in_journal = is.in_journal;
@@ -261,6 +275,7 @@ retries-closing-first head epoch images homes journal d is = record {
 pub syncs-closing-first : (head : Head) (epoch : ℕ) (images : List (List ℕ)) (homes journal : ℕ → List ℕ) (d : DiskState) → IsCommitting head epoch images homes journal (Closing FirstSync) d → IsCommitting head epoch images homes journal (Closing Second) (synced d)
 syncs-closing-first head epoch images homes journal d is = record {
   id = is.id;
+  size = is.size;
   first = Fixed-synced (head_page (opened_head head epoch images)) (head_page (closed_head head epoch)) (d.cells 0) is.first;
   second = Trying-from_Fixed (head_page (opened_head head epoch images)) (head_page (closed_head head epoch)) (synced_cell (d.cells 1)) (Fixed-stays (head_page (opened_head head epoch images)) (d.cells 1) is.second);
   in_journal = λ i within. Fixed-stays (image_at images i) (d.cells (2 + head.nodes + i)) (is.in_journal i within);
@@ -274,6 +289,7 @@ writes-closing-second head epoch images homes journal d is =
     let page = head_page (closed_head head epoch) in
     record {
       id = is.id;
+      size = is.size;
       second = Has-here (head_page (opened_head head epoch images)) page d 1 is.second;
       first = Has-elsewhere (Fixed (head_page (closed_head head epoch))) d 1 0 page (λ same. omega arith) is.first;
       in_journal = λ i within. Has-elsewhere (Fixed (image_at images i)) d 1 (2 + head.nodes + i) page (λ same. omega arith) (is.in_journal i within);
@@ -285,6 +301,7 @@ writes-closing-second head epoch images homes journal d is =
 pub retries-closing-second : (head : Head) (epoch : ℕ) (images : List (List ℕ)) (homes journal : ℕ → List ℕ) (d : DiskState) → IsCommitting head epoch images homes journal (Closing SecondSync) d → IsCommitting head epoch images homes journal (Closing Second) d
 retries-closing-second head epoch images homes journal d is = record {
   id = is.id;
+  size = is.size;
   second = Trying-from_Tried (head_page (opened_head head epoch images)) (head_page (closed_head head epoch)) (d.cells 1) is.second;
   first = is.first;
   in_journal = is.in_journal;
@@ -296,6 +313,7 @@ retries-closing-second head epoch images homes journal d is = record {
 pub syncs-closing-second : (head : Head) (epoch : ℕ) (images : List (List ℕ)) (homes journal : ℕ → List ℕ) (d : DiskState) → IsCommitting head epoch images homes journal (Closing SecondSync) d → IsCommitting head epoch images homes journal (Rested) (synced d)
 syncs-closing-second head epoch images homes journal d is = record {
   id = is.id;
+  size = is.size;
   first = Fixed-stays (head_page (closed_head head epoch)) (d.cells 0) is.first;
   second = Fixed-synced (head_page (opened_head head epoch images)) (head_page (closed_head head epoch)) (d.cells 1) is.second;
   in_journal = λ i within. Fixed-stays (image_at images i) (d.cells (2 + head.nodes + i)) (is.in_journal i within);
@@ -336,6 +354,7 @@ keeps head epoch images homes journal Rested d are going is = absurd (cc going)
 pub IsCommitting-at_rest : (head : Head) (epoch : ℕ) (images : List (List ℕ)) (homes journal : ℕ → List ℕ) (d : DiskState) → length images ≤ head.nodes → AreImages head.nodes images → IsAtRest head homes journal d → IsCommitting head epoch images homes journal (Journal 0) d
 IsCommitting-at_rest head epoch images homes journal d fits are is = record {
   id = is.id;
+  size = is.size;
   first = is.first;
   second = is.second;
   in_journal = λ i within. passed_none i (journal i) (image_at images i) (d.cells (2 + head.nodes + i)) (is.each_image i (omega arith));
@@ -348,6 +367,7 @@ IsCommitting-at_rest head epoch images homes journal d fits are is = record {
 pub IsCommitting-opened : (head : Head) (epoch : ℕ) (images : List (List ℕ)) (homes journal : ℕ → List ℕ) (d : DiskState) → length images ≤ head.nodes → AreImages head.nodes images → IsAtRest (opened_head head epoch images) homes journal d → ((i : ℕ) → i < length images → journal i ≡ image_at images i) → IsCommitting head epoch images homes journal (Homes 0) d
 IsCommitting-opened head epoch images homes journal d fits are is counted = record {
   id = is.id;
+  size = is.size;
   first = is.first;
   second = is.second;
   in_journal = λ i within. subst (λ (p : List ℕ). Has (Fixed p) (d.cells (2 + head.nodes + i))) (counted i within) (is.each_image i (omega arith));
@@ -359,34 +379,54 @@ IsCommitting-opened head epoch images homes journal d fits are is counted = reco
 -- ---- damage
 
 -- what is known is known of the candidates
-pub IsCommitting-same : (head : Head) (epoch : ℕ) (images : List (List ℕ)) (homes journal : ℕ → List ℕ) (stage : Stage) (old new : DiskState) → HaveSameCandidates old new → IsCommitting head epoch images homes journal stage old → IsCommitting head epoch images homes journal stage new
-IsCommitting-same head epoch images homes journal stage old new same is =
+pub IsCommitting-same : (head : Head) (epoch : ℕ) (images : List (List ℕ)) (homes journal : ℕ → List ℕ) (stage : Stage) (old new : DiskState) → CanFinish head epoch images → HasSameCandidates (2 + 2 * head.nodes) old new → IsCommitting head epoch images homes journal stage old → IsCommitting head epoch images homes journal stage new
+IsCommitting-same head epoch images homes journal stage old new can same is =
     let before = head_page head in
     let opened = head_page (opened_head head epoch images) in
     let closed = head_page (closed_head head epoch) in
+    let few : length images ≤ head.nodes = can.opened.count in
     record {
       id = is.id;
-      first = Has-same (first_at before opened closed stage) (old.cells 0) (new.cells 0) (same 0) is.first;
-      second = Has-same (second_at before opened closed stage) (old.cells 1) (new.cells 1) (same 1) is.second;
-      in_journal = λ i within. let p = 2 + head.nodes + i in Has-same (journal_at i (journal i) (image_at images i) stage) (old.cells p) (new.cells p) (same p) (is.in_journal i within);
-      at_home = λ i within. let p = 2 + slot_of (image_at images i) in Has-same (home_at i (homes (slot_of (image_at images i))) (image_at images i) stage) (old.cells p) (new.cells p) (same p) (is.at_home i within);
-      beyond = λ i past within. let p = 2 + head.nodes + i in Has-same (Fixed (journal i)) (old.cells p) (new.cells p) (same p) (is.beyond i past within);
-      others = λ slot within unnamed. Has-same (Fixed (homes slot)) (old.cells (2 + slot)) (new.cells (2 + slot)) (same (2 + slot)) (is.others slot within unnamed);
+      size = same.size ∙ is.size;
+      first = Has-same (first_at before opened closed stage) (old.cells 0) (new.cells 0) (same.each 0 (omega arith)) is.first;
+      second = Has-same (second_at before opened closed stage) (old.cells 1) (new.cells 1) (same.each 1 (omega arith)) is.second;
+      in_journal = λ i within. let p = 2 + head.nodes + i in Has-same (journal_at i (journal i) (image_at images i) stage) (old.cells p) (new.cells p) (same.each p (omega arith)) (is.in_journal i within);
+      at_home = λ i within. let low = can.images_are.slots i within in let p = 2 + slot_of (image_at images i) in Has-same (home_at i (homes (slot_of (image_at images i))) (image_at images i) stage) (old.cells p) (new.cells p) (same.each p (omega arith)) (is.at_home i within);
+      beyond = λ i past within. let p = 2 + head.nodes + i in Has-same (Fixed (journal i)) (old.cells p) (new.cells p) (same.each p (omega arith)) (is.beyond i past within);
+      others = λ slot within unnamed. Has-same (Fixed (homes slot)) (old.cells (2 + slot)) (new.cells (2 + slot)) (same.each (2 + slot) (omega arith)) (is.others slot within unnamed);
     }
 
-pub IsAtRest-same : (head : Head) (homes journal : ℕ → List ℕ) (old new : DiskState) → HaveSameCandidates old new → IsAtRest head homes journal old → IsAtRest head homes journal new
+pub IsAtRest-same : (head : Head) (homes journal : ℕ → List ℕ) (old new : DiskState) → HasSameCandidates (2 + 2 * head.nodes) old new → IsAtRest head homes journal old → IsAtRest head homes journal new
 IsAtRest-same head homes journal old new same is = record {
   id = is.id;
-  first = Has-same (Fixed (head_page head)) (old.cells 0) (new.cells 0) (same 0) is.first;
-  second = Has-same (Fixed (head_page head)) (old.cells 1) (new.cells 1) (same 1) is.second;
-  each_home = λ slot within. Has-same (Fixed (homes slot)) (old.cells (2 + slot)) (new.cells (2 + slot)) (same (2 + slot)) (is.each_home slot within);
-  each_image = λ i within. let p = 2 + head.nodes + i in Has-same (Fixed (journal i)) (old.cells p) (new.cells p) (same p) (is.each_image i within);
+  size = same.size ∙ is.size;
+  first = Has-same (Fixed (head_page head)) (old.cells 0) (new.cells 0) (same.each 0 (omega arith)) is.first;
+  second = Has-same (Fixed (head_page head)) (old.cells 1) (new.cells 1) (same.each 1 (omega arith)) is.second;
+  each_home = λ slot within. Has-same (Fixed (homes slot)) (old.cells (2 + slot)) (new.cells (2 + slot)) (same.each (2 + slot) (omega arith)) (is.each_home slot within);
+  each_image = λ i within. let p = 2 + head.nodes + i in Has-same (Fixed (journal i)) (old.cells p) (new.cells p) (same.each p (omega arith)) (is.each_image i within);
 }
 
 same_if_hurt : (here : Bool) (cell : Cell) (bytes : List ℕ) → candidates (cond here (hurt_cell cell bytes) cell) ≡ candidates cell
 same_if_hurt true cell bytes = refl
 same_if_hurt false cell bytes = refl
 
--- damage leaves the candidates
-pub HaveSameCandidates-damaged : (d : DiskState) (place : ℕ) (page : List ℕ) → HaveSameCandidates d (damaged d place page)
-HaveSameCandidates-damaged d place page q = same_if_hurt (eqb q place) (d.cells q) page
+-- damage leaves the candidates, and so does a write to a place past these
+pub HasSameCandidates-damaged : (end : ℕ) (d : DiskState) (place : ℕ) (page : List ℕ) → HasSameCandidates end d (damaged d place page)
+HasSameCandidates-damaged end d place page = record { size = refl; each = λ q low. same_if_hurt (eqb q place) (d.cells q) page }
+
+pub HasSameCandidates-written : (end : ℕ) (d : DiskState) (place : ℕ) (page : List ℕ) → end ≤ place → HasSameCandidates end d (written d place page)
+HasSameCandidates-written end d place page past = record {
+  size = refl;
+  each = λ q low. ap candidates (written-elsewhere d place q page (λ same. omega arith));
+}
+
+-- a sync leaves a store at rest
+pub IsAtRest-synced : (head : Head) (homes journal : ℕ → List ℕ) (d : DiskState) → IsAtRest head homes journal d → IsAtRest head homes journal (synced d)
+IsAtRest-synced head homes journal d is = record {
+  id = is.id;
+  size = is.size;
+  first = Fixed-stays (head_page head) (d.cells 0) is.first;
+  second = Fixed-stays (head_page head) (d.cells 1) is.second;
+  each_home = λ slot within. Fixed-stays (homes slot) (d.cells (2 + slot)) (is.each_home slot within);
+  each_image = λ i within. Fixed-stays (journal i) (d.cells (2 + head.nodes + i)) (is.each_image i within);
+}

@@ -2,7 +2,9 @@ pub mod AfterCrashes
 pub mod AfterRecoveries
 pub mod Answering
 pub mod Choices
+pub mod DataPlaces
 pub mod FirstCalls
+pub mod Found
 pub mod HeadReads
 pub mod Heads
 pub mod ImageWrites
@@ -19,3 +21,4 @@ pub mod Settled
 pub mod StepsOfCommits
 pub mod StepsOfRecoveries
 pub mod TriedCells
+pub mod Unharmed

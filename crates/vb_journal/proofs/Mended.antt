@@ -9,7 +9,8 @@ use Rattle.vb_head.specs.declared.head.Head.{Head}
 use Rattle.vb_head.specs.Heads.{IsHead, head_page, head_read}
 use Rattle.vb_journal.specs.Progress.{Has, Tried}
 use Rattle.vb_journal.specs.Recoveries.{choice_of, recovery_of}
-use Rattle.vb_journal.specs.Recovering.{HasBothHeads, IsMended, IsMending, MayBeMended, RecoversWhole, StandsFrom, newest_of, reads_of, reads_whole, recovery_on, whole_cell}
+use Rattle.vb_journal.specs.Outcomes.{reads_of, recovery_on}
+use Rattle.vb_journal.specs.Recovering.{HasBothHeads, IsMended, IsMending, MayBeMended, RecoversWhole, StandsFrom, newest_of, reads_whole, whole_cell}
 use Rattle.vb_journal.specs.Shown.{good_of, greater}
 use Rattle.vb_journal.proofs.Choices.{chosen-again}
 use Rattle.vb_journal.proofs.Heads.{good_of-head_page, good_of-unsealed, greater-same}
@@ -89,8 +90,7 @@ old_counts begun new head place low size was here old behind = by_hurt (begun.ce
         let elsewhere : Q (1 - place) = here ∙ sym was ∙ sym (cond-false (eqb (1 - place) place) (newest_of (begun.cells (1 - place))) (read_at begun (1 - place)) (ne_eqb (1 - place) place (λ same. omega arith))) in
         let both = both_places place Q low there elsewhere in
         inr (record {
-          bytes = bytes;
-          hurt = hurt;
+          hurt = (bytes, hurt);
           recovers = ap (λ (n : ℕ). recovery_of n (reads_of new)) size ∙ recovery_of-same begun.size (reads_of new) (reads_whole begun place) (choice_of-same begun.size (reads_of new) (reads_whole begun place) both.0 both.1)
               (λ p past. behind p past ∙ sym (cond-false (eqb p place) (newest_of (begun.cells p)) (read_at begun p) (ne_eqb p place (λ same. omega arith))));
         })

@@ -1,6 +1,6 @@
 -- A commit whose journal was read: how it begins, goes on and ends.
 use Rattle.std.proofs.Common.{◌≡◌, ◌≢◌, ℕ, ◌+◌, ◌-◌, ◌<◌, ◌≤◌, Bool, true, false, cond, ltb, List, [], length, Option, Some, None, Result, Ok, unwrap_or, refl, sym, ap, subst, ◌∙◌, ◌⊎◌, inl, inr, arith}
-use Rattle.std.proofs.lemmas.Bool.{cases_eq, cases_lt, lt-ltb, le-ltb}
+use Rattle.std.proofs.lemmas.Bool.{cases_eq, cases_lt, eqb-true, le-ltb, lt-ltb}
 use Rattle.vb_block.specs.Pages.{IsSealed}
 use Rattle.vb_disk.specs.declared.cell.Cell.{Cell}
 use Rattle.vb_disk.specs.declared.disk_error.DiskError.{DiskError}
@@ -10,7 +10,7 @@ use Rattle.vb_disk.specs.States.{DiskCall, DiskState, IsDiskState, Sync, Write, 
 use Rattle.vb_head.specs.declared.head.Head.{Head}
 use Rattle.vb_head.specs.declared.head.State.{State}
 use Rattle.vb_head.specs.declared.head.State.TheVariants.{Closed, Opened}
-use Rattle.vb_head.specs.Heads.{IsHead, head_page}
+use Rattle.vb_head.specs.Heads.{IsHead, head_page, head_read}
 use Rattle.vb_journal.specs.declared.commit_stage.CommitStep.{CommitStep}
 use Rattle.vb_journal.specs.declared.commit_stage.CommitStep.TheVariants.{Rested as RestedNow}
 use Rattle.vb_journal.specs.declared.commit_stage.Stage.{Stage}
@@ -21,9 +21,11 @@ use Rattle.vb_journal.specs.Images.{AreImages, image_at, slot_of}
 use Rattle.vb_journal.specs.Plans.{CanFinish, answer_at, calls_from, closed_head, due_call, is_rested, next_stage, opened_head}
 use Rattle.vb_journal.specs.Progress.{Fixed, Has, IsAtRest, IsCommitting, IsUnnamed}
 use Rattle.vb_journal.specs.Recoveries.{journal_of, journal_place, journal_refusal, settled_head}
-use Rattle.vb_journal.specs.Recovering.{HasBothHeads, HasWholePlaces, IsHomeWhole, IsRecovered, IsReplaying, homes_of, images_in, newest_of, reads_of, whole_cell}
+use Rattle.vb_journal.specs.Outcomes.{reads_of}
+use Rattle.vb_journal.specs.Recovering.{HasBothHeads, HasWholePlaces, IsHomeWhole, IsRecovered, IsReplaying, homes_of, images_in, newest_of, whole_cell}
 use Rattle.vb_journal.specs.Replays.{is_late}
 use Rattle.vb_journal.specs.Shown.{image_over}
+use Rattle.vb_journal.proofs.Choices.{IsChosen-from}
 use Rattle.vb_journal.proofs.FirstCalls.{gone}
 use Rattle.vb_journal.proofs.JournalReads.{IsWhole, image_at-pages_from}
 use Rattle.vb_journal.proofs.Keeping.{keeps}
@@ -59,6 +61,7 @@ fixed_whole page cell is = ap candidates is
 pub at_rest-found : (begun d : DiskState) (head : Head) → HasBothHeads begun head d → IsAtRest head (homes_of begun) (images_in begun head) d
 at_rest-found begun d head has = record {
   id = has.is.id_length;
+  size = has.stands.size ∙ sym (eqb-true head.blocks begun.size (IsChosen-from begun.size (head_read (read_at begun 0)) (head_read (read_at begun 1)) head has.counts).fits);
   first = fixed_whole (head_page head) (d.cells 0) has.first;
   second = fixed_whole (head_page head) (d.cells 1) has.second;
   each_home = λ slot within. ap candidates (has.stands.each (2 + slot) (omega arith));

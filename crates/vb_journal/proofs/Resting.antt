@@ -12,6 +12,7 @@ use Rattle.vb_journal.proofs.Overlays.{image_over-named, image_over-unnamed, nam
 pub IsAtRest-rested : (head : Head) (epoch : ℕ) (images : List (List ℕ)) (homes journal : ℕ → List ℕ) (d : DiskState) → AreImages head.nodes images → IsCommitting head epoch images homes journal Rested d → IsAtRest (closed_head head epoch) (new_images images homes) (new_journal images journal) d
 IsAtRest-rested head epoch images homes journal d are is = record {
   id = is.id;
+  size = is.size;
   first = is.first;
   second = is.second;
   each_home = λ slot within.

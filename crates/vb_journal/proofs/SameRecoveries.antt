@@ -5,7 +5,7 @@ use Rattle.vb_head.specs.declared.head.Head.{Head}
 use Rattle.vb_head.specs.Heads.{count_of, head_read}
 use Rattle.vb_journal.specs.declared.recover_error.RecoverError.{RecoverError}
 use Rattle.vb_journal.specs.Recoveries.{Recovered, choice_of, head_choice, images_refusal, journal_of, journal_place, journal_refusal, node_image, node_images, recovered_by, recovered_from, recovery_of, settled_head}
-use Rattle.vb_journal.specs.Recovering.{reads_of, recovery_on}
+use Rattle.vb_journal.specs.Outcomes.{reads_of, recovery_on}
 use Rattle.vb_journal.specs.Shown.{image_over, pages_from}
 
 -- equal reads give equal pages

@@ -1,9 +1,9 @@
 -- What a step of a commit leaves, at Ok and after an error.
-use Rattle.std.proofs.Common.{◌≡◌, ℕ, ◌+◌, ◌*◌, Bool, true, false, cond, ltb, List, length, Option, Some, refl, sym, subst, ◌∙◌, ◌⊎◌, inl, inr}
+use Rattle.std.proofs.Common.{◌≡◌, ℕ, ◌+◌, Bool, true, false, cond, ltb, List, length, Option, Some, refl, sym, subst, ◌∙◌, ◌⊎◌, inl, inr}
 use Rattle.std.proofs.lemmas.Bool.{cases_lt, lt-ltb, le-ltb}
 use Rattle.vb_disk.specs.declared.disk_error.DiskError.{DiskError}
 use Rattle.vb_disk.specs.declared.disk_error.DiskError.TheVariants.{Failed, Memory}
-use Rattle.vb_disk.specs.States.{DiskCall, DiskState, Sync, Write, after_call, read_at, written}
+use Rattle.vb_disk.specs.States.{DiskCall, DiskState, IsDiskState, Sync, Write, after_call, written}
 use Rattle.vb_disk.proofs.Ways.{EachMoment-call, EachMoment-none, EachMoment-tried}
 use Rattle.vb_head.specs.declared.head.Head.{Head}
 use Rattle.vb_head.specs.Heads.{head_page}
@@ -13,10 +13,11 @@ use Rattle.vb_journal.specs.declared.commit_stage.Turn.TheVariants.{First, First
 use Rattle.vb_journal.specs.Calls.{Makes, MayFailTo}
 use Rattle.vb_journal.specs.Images.{image_at, slot_of}
 use Rattle.vb_journal.specs.Plans.{CanFinish, CanGoOn, closed_head, due_call, is_early, is_rested, next_stage, opened_head}
-use Rattle.vb_journal.specs.Progress.{AfterCrash, AreUnhurt, GoesOn, IsCommitting, ShowsAt}
-use Rattle.vb_journal.proofs.AfterCrashes.{AfterCrash-ShowsAt}
+use Rattle.vb_journal.specs.Progress.{EachCrashRecovers, EachCrashRecoversWholly, GoesOn, IsCommitting}
+use Rattle.vb_journal.proofs.AfterCrashes.{EachCrashRecovers-stage}
 use Rattle.vb_journal.proofs.FirstCalls.{gone}
 use Rattle.vb_journal.proofs.Keeping.{keeps, keeps-homes, keeps-journal, retries-closing-first, retries-closing-second, retries-homes, retries-journal, retries-opening-first, retries-opening-second, writes-closing-first, writes-closing-second, writes-opening-first, writes-opening-second}
+use Rattle.vb_journal.proofs.Unharmed.{EachCrashRecoversWholly-before, EachCrashRecoversWholly-unharmed, IsUnharmed-due, IsUnharmed-tried}
 
 -- the disk is known at the stage, and is the one from before or the one after the call
 abbrev pub Tries : Head → ℕ → List (List ℕ) → (ℕ → List ℕ) → (ℕ → List ℕ) → Stage → DiskCall → DiskState → Option DiskState → Type 0
@@ -56,35 +57,13 @@ tries head epoch images homes journal (Closing Second) d told can going may is =
 tries head epoch images homes journal (Closing SecondSync) d told can going may is = tries_sync head epoch images homes journal (Closing SecondSync) d told may is
 tries head epoch images homes journal Rested d told can going may is = absurd (cc going)
 
--- what is shown at the next stage may be shown at this one
-cond_stage : (head : Head) (epoch : ℕ) (images : List (List ℕ)) (homes : ℕ → List ℕ) (b : Bool) (next : ℕ) (reads : ℕ → List ℕ) → ShowsAt head epoch images homes (cond b (Journal (next + 1)) (Opening First)) reads → ShowsAt head epoch images homes (Journal next) reads
-cond_stage head epoch images homes true next reads shows = shows
-cond_stage head epoch images homes false next reads shows = shows
-
-cond_home : (head : Head) (epoch : ℕ) (images : List (List ℕ)) (homes : ℕ → List ℕ) (b : Bool) (next : ℕ) (reads : ℕ → List ℕ) → ShowsAt head epoch images homes (cond b (Homes (next + 1)) (Closing First)) reads → ShowsAt head epoch images homes (Homes next) reads
-cond_home head epoch images homes true next reads shows = shows
-cond_home head epoch images homes false next reads shows = shows
-
-shown_before : (head : Head) (epoch : ℕ) (images : List (List ℕ)) (homes : ℕ → List ℕ) (stage : Stage) (reads : ℕ → List ℕ) → ShowsAt head epoch images homes (next_stage (length images) stage) reads → ShowsAt head epoch images homes stage reads
-shown_before head epoch images homes (Journal next) reads shows = cond_stage head epoch images homes (ltb next (length images)) next reads shows
-shown_before head epoch images homes (Opening First) reads shows = shows
-shown_before head epoch images homes (Opening FirstSync) reads shows = shows
-shown_before head epoch images homes (Opening Second) reads shows = shows
-shown_before head epoch images homes (Opening SecondSync) reads shows = inr shows
-shown_before head epoch images homes (Homes next) reads shows = cond_home head epoch images homes (ltb next (length images)) next reads shows
-shown_before head epoch images homes (Closing First) reads shows = shows
-shown_before head epoch images homes (Closing FirstSync) reads shows = shows
-shown_before head epoch images homes (Closing Second) reads shows = shows
-shown_before head epoch images homes (Closing SecondSync) reads shows = shows
-shown_before head epoch images homes Rested reads shows = shows
-
 -- a moment that is known at the stage or at the one after it
 abbrev Known : Head → ℕ → List (List ℕ) → (ℕ → List ℕ) → (ℕ → List ℕ) → Stage → Stage → DiskState → Type 0
 Known head epoch images homes journal before after m = IsCommitting head epoch images homes journal before m ⊎ IsCommitting head epoch images homes journal after m
 
--- where no place is hurt by then, each crash shows what the stage shows
-abbrev Shown : Head → ℕ → List (List ℕ) → (ℕ → List ℕ) → Stage → DiskState → Type 0
-Shown head epoch images homes stage m = AreUnhurt (2 + 2 * head.nodes) m → AfterCrash (ShowsAt head epoch images homes stage) m
+-- each crash recovers as at the stage or as at the one after it
+abbrev Recovering : Head → ℕ → List (List ℕ) → (ℕ → List ℕ) → Stage → Stage → DiskState → Type 0
+Recovering head epoch images homes before after m = EachCrashRecovers head epoch images homes before m ⊎ EachCrashRecovers head epoch images homes after m
 
 homes_are_late : (b : Bool) (next : ℕ) → is_early (cond b (Homes (next + 1)) (Closing First)) ≡ true → is_early (Homes next) ≡ true
 homes_are_late true next is = is
@@ -104,41 +83,61 @@ early_before count Rested is = is
 pub CanGoOn-next : (head : Head) (epoch : ℕ) (images : List (List ℕ)) (stage : Stage) → CanGoOn head epoch images stage → CanGoOn head epoch images (next_stage (length images) stage)
 CanGoOn-next head epoch images stage can = record { finish = can.finish; early = λ is. can.early (early_before (length images) stage is) }
 
-pub goes_on-made : (head : Head) (epoch : ℕ) (images : List (List ℕ)) (homes journal : ℕ → List ℕ) (stage : Stage) (old new : Option DiskState) → CanGoOn head epoch images stage → is_rested stage ≡ false → ((d : DiskState) → old ≡ Some d → new ≡ Some (after_call d (due_call head epoch images stage))) → GoesOn head epoch images homes journal stage (next_stage (length images) stage) old new
-goes_on-made head epoch images homes journal stage old new can going made d told is =
+-- what a disk tells is a state that a disk can have
+abbrev pub IsTold : Option DiskState → Type 0
+IsTold told = (d : DiskState) → told ≡ Some d → IsDiskState d
+
+pub goes_on-made : (head : Head) (epoch : ℕ) (images : List (List ℕ)) (homes journal : ℕ → List ℕ) (stage : Stage) (old new : Option DiskState) → CanGoOn head epoch images stage → IsTold old → IsTold new → is_rested stage ≡ false → ((d : DiskState) → old ≡ Some d → new ≡ Some (after_call d (due_call head epoch images stage))) → GoesOn head epoch images homes journal stage (next_stage (length images) stage) old new
+goes_on-made head epoch images homes journal stage old new can old_is new_is going made d told is =
     let then = keeps head epoch images homes journal stage d can.finish.images_are going is in
     let next = next_stage (length images) stage in
+    let call = due_call head epoch images stage in
+    let here = EachCrashRecovers-stage head epoch images homes journal stage d can (old_is d told) is in
+    let after = EachCrashRecovers-stage head epoch images homes journal next (after_call d call) (CanGoOn-next head epoch images stage can) (new_is (after_call d call) (made d told)) then in
     record {
-      next = after_call d (due_call head epoch images stage);
+      next = after_call d call;
       told = made d told;
       known = then;
-      moments = EachMoment-call (Known head epoch images homes journal stage next) d (due_call head epoch images stage) (inl is) (inr then);
-      crashes = EachMoment-call (Shown head epoch images homes stage) d (due_call head epoch images stage)
-          (AfterCrash-ShowsAt head epoch images homes journal stage d can is)
-          (λ unhurt crashed crash. shown_before head epoch images homes stage (λ place. read_at crashed place) (AfterCrash-ShowsAt head epoch images homes journal next (after_call d (due_call head epoch images stage)) (CanGoOn-next head epoch images stage can) then unhurt crashed crash));
+      moments = EachMoment-call (Known head epoch images homes journal stage next) d call (inl is) (inr then);
+      crashes = EachMoment-call (Recovering head epoch images homes stage next) d call (inl here) (inr after);
+      unharmed = IsUnharmed-due head epoch images stage d;
+      wholly = λ unharmed. EachMoment-call (EachCrashRecoversWholly head epoch images homes stage) d call
+          (EachCrashRecoversWholly-unharmed head epoch images homes stage d unharmed here)
+          (EachCrashRecoversWholly-before head epoch images homes stage (after_call d call) (EachCrashRecoversWholly-unharmed head epoch images homes next (after_call d call) (IsUnharmed-due head epoch images stage d unharmed) after));
     }
 
-pub goes_on-failed : (head : Head) (epoch : ℕ) (images : List (List ℕ)) (homes journal : ℕ → List ℕ) (stage : Stage) (old new : Option DiskState) → CanGoOn head epoch images stage → is_rested stage ≡ false → ((d : DiskState) → old ≡ Some d → MayFailTo (due_call head epoch images stage) d new) → GoesOn head epoch images homes journal stage stage old new
-goes_on-failed head epoch images homes journal stage old new can going failed d told is =
+pub goes_on-failed : (head : Head) (epoch : ℕ) (images : List (List ℕ)) (homes journal : ℕ → List ℕ) (stage : Stage) (old new : Option DiskState) → CanGoOn head epoch images stage → IsTold old → IsTold new → is_rested stage ≡ false → ((d : DiskState) → old ≡ Some d → MayFailTo (due_call head epoch images stage) d new) → GoesOn head epoch images homes journal stage stage old new
+goes_on-failed head epoch images homes journal stage old new can old_is new_is going failed d told is =
     let tried = tries head epoch images homes journal stage d new can.finish going (failed d told) is in
+    let call = due_call head epoch images stage in
+    let here = EachCrashRecovers-stage head epoch images homes journal stage d can (old_is d told) is in
+    let after = EachCrashRecovers-stage head epoch images homes journal stage tried.0 can (new_is tried.0 tried.1) tried.2 in
     record {
       next = tried.0;
       told = tried.1;
       known = tried.2;
-      moments = EachMoment-tried (Known head epoch images homes journal stage stage) d tried.0 (due_call head epoch images stage) tried.3 (inl is) (inl tried.2);
-      crashes = EachMoment-tried (Shown head epoch images homes stage) d tried.0 (due_call head epoch images stage) tried.3 (AfterCrash-ShowsAt head epoch images homes journal stage d can is) (AfterCrash-ShowsAt head epoch images homes journal stage tried.0 can tried.2);
+      moments = EachMoment-tried (Known head epoch images homes journal stage stage) d tried.0 call tried.3 (inl is) (inl tried.2);
+      crashes = EachMoment-tried (Recovering head epoch images homes stage stage) d tried.0 call tried.3 (inl here) (inl after);
+      unharmed = IsUnharmed-tried head images stage d tried.0 call tried.3;
+      wholly = λ unharmed. EachMoment-tried (EachCrashRecoversWholly head epoch images homes stage) d tried.0 call tried.3
+          (EachCrashRecoversWholly-unharmed head epoch images homes stage d unharmed here)
+          (EachCrashRecoversWholly-unharmed head epoch images homes stage tried.0 (IsUnharmed-tried head images stage d tried.0 call tried.3 unharmed) after);
     }
 
-pub goes_on-none : (head : Head) (epoch : ℕ) (images : List (List ℕ)) (homes journal : ℕ → List ℕ) (stage : Stage) (old new : Option DiskState) → CanGoOn head epoch images stage → new ≡ old → GoesOn head epoch images homes journal stage stage old new
-goes_on-none head epoch images homes journal stage old new can same d told is = record {
-  next = d;
-  told = same ∙ told;
-  known = is;
-  moments = EachMoment-none (Known head epoch images homes journal stage stage) d (inl is);
-  crashes = EachMoment-none (Shown head epoch images homes stage) d (AfterCrash-ShowsAt head epoch images homes journal stage d can is);
-}
+pub goes_on-none : (head : Head) (epoch : ℕ) (images : List (List ℕ)) (homes journal : ℕ → List ℕ) (stage : Stage) (old new : Option DiskState) → CanGoOn head epoch images stage → IsTold old → new ≡ old → GoesOn head epoch images homes journal stage stage old new
+goes_on-none head epoch images homes journal stage old new can old_is same d told is =
+    let here = EachCrashRecovers-stage head epoch images homes journal stage d can (old_is d told) is in
+    record {
+      next = d;
+      told = same ∙ told;
+      known = is;
+      moments = EachMoment-none (Known head epoch images homes journal stage stage) d (inl is);
+      crashes = EachMoment-none (Recovering head epoch images homes stage stage) d (inl here);
+      unharmed = λ unharmed. unharmed;
+      wholly = λ unharmed. EachMoment-none (EachCrashRecoversWholly head epoch images homes stage) d (EachCrashRecoversWholly-unharmed head epoch images homes stage d unharmed here);
+    }
 
 -- after an error the stage stands
-pub goes_on-gone : (head : Head) (epoch : ℕ) (images : List (List ℕ)) (homes journal : ℕ → List ℕ) (stage : Stage) (old new : Option DiskState) (e : DiskError) → CanGoOn head epoch images stage → is_rested stage ≡ false → Makes (due_call head epoch images stage) old new (gone {T = Unit {0}} e) → GoesOn head epoch images homes journal stage stage old new
-goes_on-gone head epoch images homes journal stage old new Failed can going makes = goes_on-failed head epoch images homes journal stage old new can going (λ d told. makes.failed d told refl)
-goes_on-gone head epoch images homes journal stage old new Memory can going makes = goes_on-none head epoch images homes journal stage old new can (makes.memory refl)
+pub goes_on-gone : (head : Head) (epoch : ℕ) (images : List (List ℕ)) (homes journal : ℕ → List ℕ) (stage : Stage) (old new : Option DiskState) (e : DiskError) → CanGoOn head epoch images stage → IsTold old → IsTold new → is_rested stage ≡ false → Makes (due_call head epoch images stage) old new (gone {T = Unit {0}} e) → GoesOn head epoch images homes journal stage stage old new
+goes_on-gone head epoch images homes journal stage old new Failed can old_is new_is going makes = goes_on-failed head epoch images homes journal stage old new can old_is new_is going (λ d told. makes.failed d told refl)
+goes_on-gone head epoch images homes journal stage old new Memory can old_is new_is going makes = goes_on-none head epoch images homes journal stage old new can old_is (makes.memory refl)

@@ -13,7 +13,8 @@ use Rattle.vb_journal.specs.declared.recover_stage.RecoverStage.{RecoverStage}
 use Rattle.vb_journal.specs.declared.recover_stage.RecoverStage.TheVariants.{Ask, Settle, ReadFirst, ReadSecond, Mend, SettleMend, ReadImage, Replay, Ready, Refused}
 use Rattle.vb_journal.specs.declared.refusal.Refusal.{Refusal}
 use Rattle.vb_journal.specs.Calls.{Makes, MayFailTo}
-use Rattle.vb_journal.specs.Recovering.{EachRecovers, IsHopeless, IsRecovering, MayRecover, RecoversTo, TakesImage, images_by, recovery_on}
+use Rattle.vb_journal.specs.Outcomes.{recovery_on}
+use Rattle.vb_journal.specs.Recovering.{EachRecovers, IsHopeless, IsRecovering, MayRecover, RecoversTo, TakesImage, images_by}
 use Rattle.vb_journal.proofs.FirstCalls.{gone}
 
 -- no call changed the disk

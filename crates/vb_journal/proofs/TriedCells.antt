@@ -6,8 +6,8 @@ use Rattle.std.proofs.lemmas.List.{length-replicate}
 use Rattle.vb_block.specs.Pages.{IsSealed}
 use Rattle.vb_disk.specs.declared.cell.Cell.{Cell}
 use Rattle.vb_disk.specs.Cells.{candidate_at, candidates, read_of, synced_cell, written_cell}
-use Rattle.vb_disk.specs.Crashes.{CellMayCrashTo}
-use Rattle.vb_disk.specs.States.{DiskState, written}
+use Rattle.vb_disk.specs.Crashes.{CellMayCrashTo, IsTorn}
+use Rattle.vb_disk.specs.States.{DiskState, IsDiskState, written}
 use Rattle.vb_journal.specs.Progress.{Progress, Fixed, Trying, Tried, Has}
 
 replicate-snoc : (n : ℕ) (x : List ℕ) → replicate n x ++ x ∷ [] ≡ replicate (suc n) x
@@ -72,6 +72,26 @@ Has-here old new d place has = subst (Has (Tried old new)) (sym (written-here d 
 
 -- ---- crashes
 
+-- what a hurt place reads as isn't sealed
+abbrev pub ReadsUnsealed : Cell → Type 0
+ReadsUnsealed cell = (bytes : List ℕ) → cell.hurt ≡ Some bytes → ¬ IsSealed bytes
+
+-- so is it on each disk
+pub ReadsUnsealed-disk : (d : DiskState) (place : ℕ) → IsDiskState d → ReadsUnsealed (d.cells place)
+ReadsUnsealed-disk d place disk bytes hurt = (disk.hurt_are_misses place bytes hurt).unsealed
+
+-- a place is hurt after a crash, and reads as bytes that aren't sealed
+pub record EndsHurt (new : Cell) : Type 0 where
+  pub bytes : List ℕ
+  pub hurt : new.hurt ≡ Some bytes
+  pub reads : read_of new ≡ bytes
+  pub unsealed : ¬ IsSealed bytes
+
+-- it was hurt before, and reads as it did
+pub record StaysHurt (old new : Cell) : Type 0 where
+  pub ends : EndsHurt new
+  pub was : old.hurt ≡ Some ends.bytes
+
 -- what a place may read as after a crash while it changes: the old page, the new one, or bytes that aren't sealed
 abbrev pub MayRead : List ℕ → List ℕ → List ℕ → Type 0
 MayRead old new page = (page ≡ old) ⊎ ((page ≡ new) ⊎ (¬ IsSealed page))
@@ -84,10 +104,6 @@ replicate-at (suc n) (suc i) x d within = replicate-at n i x d (omega arith)
 tried_at : (old new : List ℕ) (times i : ℕ) (d : List ℕ) → i < length (old ∷ replicate times new) → (get_or (old ∷ replicate times new) i d ≡ old) ⊎ (get_or (old ∷ replicate times new) i d ≡ new)
 tried_at old new times zero d within = inl refl
 tried_at old new times (suc i) d within = inr (replicate-at times i new d (omega (arith, length-replicate {A = List ℕ} times new)))
-
-either_read : (old new page : List ℕ) → (page ≡ old) ⊎ (page ≡ new) → MayRead old new page
-either_read old new page (inl is) = inl is
-either_read old new page (inr is) = inr (inl is)
 
 -- the read of a place that is whole and has one candidate
 read_alone : (cell : Cell) → cell.later ≡ [] → cell.hurt ≡ None → read_of cell ≡ cell.first
@@ -107,23 +123,73 @@ picked_of old new times page has =
 alone_of : (page first : List ℕ) → Contains (page ∷ []) first → first ≡ page
 alone_of page first has = elim (tried_at page page 0 has.0 first has.1) [ inl is ↦ sym has.2 ∙ is | inr is ↦ sym has.2 ∙ is ]
 
--- what a place may read as that changes
-pub MayRead-Trying : (old new : List ℕ) (before after : Cell) → before.hurt ≡ None → Has (Trying old new) before → CellMayCrashTo before after → MayRead old new (read_of after)
-MayRead-Trying old new before after whole has crash = elim crash.hurt [
+hurt_or_whole : (hurt : Option (List ℕ)) → (hurt ≡ None) ⊎ ((bytes : List ℕ) × (hurt ≡ Some bytes))
+hurt_or_whole None = inl refl
+hurt_or_whole (Some bytes) = inr (bytes, refl)
+
+ends_torn : (before after : Cell) → IsTorn before after → EndsHurt after
+ends_torn before after torn = record {
+  bytes = torn.bytes;
+  hurt = torn.reads;
+  reads = read_torn after torn.bytes torn.reads;
+  unsealed = torn.miss.unsealed;
+}
+
+stays : (before after : Cell) (bytes : List ℕ) → ReadsUnsealed before → before.hurt ≡ Some bytes → after.hurt ≡ before.hurt → StaysHurt before after
+stays before after bytes unsealed was same = record {
+  ends = record { bytes = bytes; hurt = same ∙ was; reads = read_torn after bytes (same ∙ was); unsealed = unsealed bytes was };
+  was = was;
+}
+
+-- a whole place that changes reads as the old page or the new one, or is torn
+whole_trying : (old new : List ℕ) (before after : Cell) → before.hurt ≡ None → Has (Trying old new) before → CellMayCrashTo before after → (read_of after ≡ old) ⊎ ((read_of after ≡ new) ⊎ EndsHurt after)
+whole_trying old new before after whole has crash = elim crash.hurt [
   | inl as_before ↦
-      let from : Contains (old ∷ replicate has.0 new) after.first = subst (λ (l : List (List ℕ)). Contains l after.first) has.1 crash.picked in
-      let picked : (after.first ≡ old) ⊎ (after.first ≡ new) = picked_of old new has.0 after.first from in
-      either_read old new (read_of after) (let P : List ℕ → Type 0 = λ p. (p ≡ old) ⊎ (p ≡ new) in subst P (sym (read_alone after crash.alone (as_before ∙ whole))) picked)
-  | inr torn ↦ inr (inr (λ sealed. torn.miss.unsealed (subst IsSealed (read_torn after torn.bytes torn.reads) sealed)))
+      let reads = read_alone after crash.alone (as_before ∙ whole) in
+      elim (picked_of old new has.0 after.first (subst (λ (l : List (List ℕ)). Contains l after.first) has.1 crash.picked)) [
+        | inl is ↦ inl (reads ∙ is)
+        | inr is ↦ inr (inl (reads ∙ is))
+      ]
+  | inr torn ↦ inr (inr (ends_torn before after torn))
 ]
 
--- a place that stands has one candidate, so that a crash leaves it
-several_of : (page : List ℕ) (cell : Cell) → Has (Fixed page) cell → length cell.later ≡ 0
-several_of page cell has = let none : cell.later ≡ [] = cc has in ap length none
+-- a place that stands has one candidate, so that no crash tears it
+none_later : (page : List ℕ) (cell : Cell) → Has (Fixed page) cell → length cell.later ≡ 0
+none_later page cell has = let none : cell.later ≡ [] = cc has in ap length none
 
--- a place that stands reads as before
+-- a whole place that stands reads as before
 pub read-Fixed : (page : List ℕ) (before after : Cell) → before.hurt ≡ None → Has (Fixed page) before → CellMayCrashTo before after → read_of after ≡ page
 read-Fixed page before after whole has crash = elim crash.hurt [
   | inl as_before ↦ read_alone after crash.alone (as_before ∙ whole) ∙ alone_of page after.first (subst (λ (l : List (List ℕ)). Contains l after.first) has crash.picked)
-  | inr torn ↦ absurd (omega (arith, torn.several, several_of page before has))
+  | inr torn ↦ absurd (omega (arith, torn.several, none_later page before has))
+]
+
+-- what a whole place may read as that changes
+pub MayRead-Trying : (old new : List ℕ) (before after : Cell) → before.hurt ≡ None → Has (Trying old new) before → CellMayCrashTo before after → MayRead old new (read_of after)
+MayRead-Trying old new before after whole has crash = elim (whole_trying old new before after whole has crash) [
+  | inl is ↦ inl is
+  | inr other ↦ elim other [
+    | inl is ↦ inr (inl is)
+    | inr hurt ↦ inr (inr (λ sealed. hurt.unsealed (subst IsSealed hurt.reads sealed)))
+  ]
+]
+
+-- what a place may read as that changes: the old page, the new one, or as it is hurt
+pub trying_or_hurt : (old new : List ℕ) (before after : Cell) → ReadsUnsealed before → Has (Trying old new) before → CellMayCrashTo before after → (read_of after ≡ old) ⊎ ((read_of after ≡ new) ⊎ EndsHurt after)
+trying_or_hurt old new before after unsealed has crash = elim (hurt_or_whole before.hurt) [
+  | inl whole ↦ whole_trying old new before after whole has crash
+  | inr hurt ↦ elim crash.hurt [
+    | inl as_before ↦ inr (inr (stays before after hurt.0 unsealed hurt.1 as_before).ends)
+    | inr torn ↦ inr (inr (ends_torn before after torn))
+  ]
+]
+
+-- a place that stands reads as before, or was hurt and stays so
+pub fixed_or_hurt : (page : List ℕ) (before after : Cell) → ReadsUnsealed before → Has (Fixed page) before → CellMayCrashTo before after → (read_of after ≡ page) ⊎ StaysHurt before after
+fixed_or_hurt page before after unsealed has crash = elim (hurt_or_whole before.hurt) [
+  | inl whole ↦ inl (read-Fixed page before after whole has crash)
+  | inr hurt ↦ elim crash.hurt [
+    | inl as_before ↦ inr (stays before after hurt.0 unsealed hurt.1 as_before)
+    | inr torn ↦ absurd (omega (arith, torn.several, none_later page before has))
+  ]
 ]

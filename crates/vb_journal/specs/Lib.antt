@@ -1,8 +1,10 @@
 pub mod Calls
 pub mod Commits
+pub mod Data
 pub mod Images
 pub mod Journals
 pub mod Marks
+pub mod Outcomes
 pub mod Plans
 pub mod Progress
 pub mod Recoveries

@@ -1,10 +1,10 @@
 -- How far the places of a store have come while a commit goes on.
-use Rattle.std.specs.Prelude.{◌≡◌, ◌≢◌, ◌⊎◌, ℕ, suc, ◌+◌, ◌*◌, ◌<◌, ◌≤◌, nat_lt, if◌then◌else◌, List, [], ◌∷◌, length, replicate, Option, Some, None}
+use Rattle.std.specs.Prelude.{◌≡◌, ◌≢◌, ◌⊎◌, ℕ, suc, ◌+◌, ◌<◌, ◌≤◌, nat_lt, if◌then◌else◌, List, [], ◌∷◌, length, replicate, Option, Some, None}
 use Rattle.vb_disk.specs.declared.cell.Cell.{Cell}
 use Rattle.vb_disk.specs.Cells.{candidates}
 use Rattle.vb_disk.specs.Crashes.{MayCrashTo}
 use Rattle.vb_disk.specs.Moments.{EachMoment}
-use Rattle.vb_disk.specs.States.{DiskState, read_at}
+use Rattle.vb_disk.specs.States.{DiskState}
 use Rattle.vb_head.specs.declared.head.Head.{Head}
 use Rattle.vb_head.specs.Heads.{head_page}
 use Rattle.vb_journal.specs.declared.commit_stage.Stage.{Stage}
@@ -12,8 +12,9 @@ use Rattle.vb_journal.specs.declared.commit_stage.Stage.TheVariants.{Journal, Op
 use Rattle.vb_journal.specs.declared.commit_stage.Turn.{Turn}
 use Rattle.vb_journal.specs.declared.commit_stage.Turn.TheVariants.{First, FirstSync, Second, SecondSync}
 use Rattle.vb_journal.specs.Images.{image_at, slot_of}
+use Rattle.vb_journal.specs.Outcomes.{IsRefused, Recovers, RecoversWholly}
 use Rattle.vb_journal.specs.Plans.{closed_head, opened_head}
-use Rattle.vb_journal.specs.Shown.{Shows, image_over}
+use Rattle.vb_journal.specs.Shown.{image_over}
 
 -- a place between two pages: it holds the old one; the new one was perhaps written; it was written
 pub data Progress : Type 0 where
@@ -82,9 +83,10 @@ home_at i old new Rested = Fixed new
 abbrev pub IsUnnamed : List (List ℕ) → ℕ → Type 0
 IsUnnamed images slot = (i : ℕ) → i < length images → slot_of (image_at images i) ≢ slot
 
--- a store in the midst of a commit, at a stage. Before it the homes held these pages, and so did the journal.
+-- a store in the midst of a commit, at a stage, by its candidates. Before it the homes held these pages, and so did the journal.
 pub record IsCommitting (head : Head) (epoch : ℕ) (images : List (List ℕ)) (homes journal : ℕ → List ℕ) (stage : Stage) (d : DiskState) : Type 0 where
   pub id : length head.id ≡ 16
+  pub size : d.size ≡ head.blocks
   pub first : Has (first_at (head_page head) (head_page (opened_head head epoch images)) (head_page (closed_head head epoch)) stage) (d.cells 0)
   pub second : Has (second_at (head_page head) (head_page (opened_head head epoch images)) (head_page (closed_head head epoch)) stage) (d.cells 1)
   pub in_journal : (i : ℕ) → i < length images → Has (journal_at i (journal i) (image_at images i) stage) (d.cells (2 + head.nodes + i))
@@ -92,9 +94,10 @@ pub record IsCommitting (head : Head) (epoch : ℕ) (images : List (List ℕ)) (
   pub beyond : (i : ℕ) → length images ≤ i → i < head.nodes → Has (Fixed (journal i)) (d.cells (2 + head.nodes + i))
   pub others : (slot : ℕ) → slot < head.nodes → IsUnnamed images slot → Has (Fixed (homes slot)) (d.cells (2 + slot))
 
--- a store at rest: each place has one candidate
+-- a store at rest: each place of its heads, homes and journal has one candidate
 pub record IsAtRest (head : Head) (homes journal : ℕ → List ℕ) (d : DiskState) : Type 0 where
   pub id : length head.id ≡ 16
+  pub size : d.size ≡ head.blocks
   pub first : Has (Fixed (head_page head)) (d.cells 0)
   pub second : Has (Fixed (head_page head)) (d.cells 1)
   pub each_home : (slot : ℕ) → slot < head.nodes → Has (Fixed (homes slot)) (d.cells (2 + slot))
@@ -108,36 +111,71 @@ new_images images homes slot = image_over images slot (homes slot)
 abbrev pub new_journal : List (List ℕ) → (ℕ → List ℕ) → ℕ → List ℕ
 new_journal images journal i = if nat_lt i (length images) then image_at images i else journal i
 
--- what reads give at a stage: the old images or the new ones, and from the second sync of the opened heads on the
--- new ones
-abbrev pub ShowsAt : Head → ℕ → List (List ℕ) → (ℕ → List ℕ) → Stage → (ℕ → List ℕ) → Type 0
-ShowsAt head epoch images homes (Journal next) reads = Shows reads head head.epoch homes ⊎ Shows reads head epoch (new_images images homes)
-ShowsAt head epoch images homes (Opening turn) reads = Shows reads head head.epoch homes ⊎ Shows reads head epoch (new_images images homes)
-ShowsAt head epoch images homes (Homes next) reads = Shows reads head epoch (new_images images homes)
-ShowsAt head epoch images homes (Closing turn) reads = Shows reads head epoch (new_images images homes)
-ShowsAt head epoch images homes Rested reads = Shows reads head epoch (new_images images homes)
+-- the size and the candidates of each place below this one stand, as where damage came or others were written
+pub record HasSameCandidates (end : ℕ) (old new : DiskState) : Type 0 where
+  pub size : new.size ≡ old.size
+  pub each : (place : ℕ) → place < end → candidates (new.cells place) ≡ candidates (old.cells place)
 
--- after each crash of the disk, what reads give has P
-abbrev pub AfterCrash : ((ℕ → List ℕ) → Type 0) → DiskState → Type 0
-AfterCrash P d = (new : DiskState) → MayCrashTo d new → P (λ place. read_at new place)
+-- ---- what crashes leave
 
--- no place below this one is hurt
-abbrev pub AreUnhurt : ℕ → DiskState → Type 0
-AreUnhurt end d = (place : ℕ) → place < end → (d.cells place).hurt ≡ None
+-- how many images of the journal a head may count in at a stage
+abbrev pub counted_at : ℕ → Stage → ℕ
+counted_at count (Journal next) = 0
+counted_at count (Opening turn) = count
+counted_at count (Homes next) = count
+counted_at count (Closing turn) = count
+counted_at count Rested = count
 
--- each place has the same candidates on both disks, as before and after damage
-abbrev pub HaveSameCandidates : DiskState → DiskState → Type 0
-HaveSameCandidates old new = (place : ℕ) → candidates (new.cells place) ≡ candidates (old.cells place)
+-- how many were written by then
+abbrev pub written_at : ℕ → Stage → ℕ
+written_at count (Journal next) = next
+written_at count (Opening turn) = count
+written_at count (Homes next) = count
+written_at count (Closing turn) = count
+written_at count Rested = count
+
+-- this holds of the head and the images from before the commit or of the new ones, and from the second sync of the
+-- opened heads on of the new ones
+abbrev pub OldOrNew : Head → ℕ → List (List ℕ) → (ℕ → List ℕ) → (Head → (ℕ → List ℕ) → Type 0) → Stage → Type 0
+OldOrNew head epoch images homes P (Journal next) = P head homes ⊎ P (closed_head head epoch) (new_images images homes)
+OldOrNew head epoch images homes P (Opening turn) = P head homes ⊎ P (closed_head head epoch) (new_images images homes)
+OldOrNew head epoch images homes P (Homes next) = P (closed_head head epoch) (new_images images homes)
+OldOrNew head epoch images homes P (Closing turn) = P (closed_head head epoch) (new_images images homes)
+OldOrNew head epoch images homes P Rested = P (closed_head head epoch) (new_images images homes)
+
+-- each crash of a disk leaves one that recovers to the old or the new images, or is refused where a head was hurt
+-- before, or an image of the journal that a head may count in
+abbrev pub EachCrashRecovers : Head → ℕ → List (List ℕ) → (ℕ → List ℕ) → Stage → DiskState → Type 0
+EachCrashRecovers head epoch images homes stage d =
+    (new : DiskState) → MayCrashTo d new
+    → OldOrNew head epoch images homes (λ h pages. Recovers d new h pages) stage ⊎ IsRefused head.nodes (counted_at (length images) stage) d new
+
+-- each crash of a disk leaves one that recovers to exactly the old or the new images
+abbrev pub EachCrashRecoversWholly : Head → ℕ → List (List ℕ) → (ℕ → List ℕ) → Stage → DiskState → Type 0
+EachCrashRecoversWholly head epoch images homes stage d =
+    (new : DiskState) → MayCrashTo d new → OldOrNew head epoch images homes (λ h pages. RecoversWholly new h pages) stage
+
+-- each crash of a store at rest leaves one that recovers to its head and its images, or is refused where a head was
+-- hurt before
+abbrev pub EachCrashStays : Head → (ℕ → List ℕ) → DiskState → Type 0
+EachCrashStays head homes d = (new : DiskState) → MayCrashTo d new → Recovers d new head homes ⊎ IsRefused head.nodes 0 d new
+
+-- no head and no home is hurt, and no place of the journal that was written
+pub record IsUnharmed (head : Head) (images : List (List ℕ)) (stage : Stage) (d : DiskState) : Type 0 where
+  pub heads_and_homes : (place : ℕ) → place < 2 + head.nodes → (d.cells place).hurt ≡ None
+  pub in_journal : (i : ℕ) → i < written_at (length images) stage → (d.cells (2 + head.nodes + i)).hurt ≡ None
 
 -- what a step leaves of a disk that is known at its stage: one that is known at the stage after it. Each moment
--- within it is known at the one stage or the other, and where no place was hurt by then each crash shows what the
--- first stage shows.
+-- within it is known at the one stage or the other, and each crash at it recovers as at that one. An unharmed disk
+-- stays so, and each crash within the step recovers wholly.
 pub record GoesTo (head : Head) (epoch : ℕ) (images : List (List ℕ)) (homes journal : ℕ → List ℕ) (before after : Stage) (d : DiskState) (new : Option DiskState) : Type 0 where
   pub next : DiskState
   pub told : new ≡ Some next
   pub known : IsCommitting head epoch images homes journal after next
   pub moments : EachMoment (λ m. IsCommitting head epoch images homes journal before m ⊎ IsCommitting head epoch images homes journal after m) d next
-  pub crashes : EachMoment (λ m. AreUnhurt (2 + 2 * head.nodes) m → AfterCrash (ShowsAt head epoch images homes before) m) d next
+  pub crashes : EachMoment (λ m. EachCrashRecovers head epoch images homes before m ⊎ EachCrashRecovers head epoch images homes after m) d next
+  pub unharmed : IsUnharmed head images before d → IsUnharmed head images after next
+  pub wholly : IsUnharmed head images before d → EachMoment (EachCrashRecoversWholly head epoch images homes before) d next
 
 -- so does each step of a disk that is known at its stage
 abbrev pub GoesOn : Head → ℕ → List (List ℕ) → (ℕ → List ℕ) → (ℕ → List ℕ) → Stage → Stage → Option DiskState → Option DiskState → Type 0

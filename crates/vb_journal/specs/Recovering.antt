@@ -20,6 +20,7 @@ use Rattle.vb_journal.specs.declared.recover_stage.RecoverStage.TheVariants.{Ask
 use Rattle.vb_journal.specs.Calls.{MayFailTo}
 use Rattle.vb_journal.specs.Commits.{calls_left, epoch_of, head_of, images_of, stage_of}
 use Rattle.vb_journal.specs.Images.{image_at, slot_of}
+use Rattle.vb_journal.specs.Outcomes.{IsHurt, reads_of, recovery_on}
 use Rattle.vb_journal.specs.Plans.{opened_head}
 use Rattle.vb_journal.specs.Progress.{IsCommitting, IsUnnamed}
 use Rattle.vb_journal.specs.Recoveries.{Recovered, choice_of, images_refusal, journal_of, journal_place, journal_refusal, node_image, recovery_of, settled_head}
@@ -115,17 +116,17 @@ blocks_of (Ready head) = 0
 blocks_of (Refused refusal) = 0
 
 -- the stage is the end, with this refusal
-abbrev pub IsRefused : RecoverStage → RecoverError → Type 0
-IsRefused Ask error = ⊥
-IsRefused (Settle size) error = ⊥
-IsRefused (ReadFirst size) error = ⊥
-IsRefused (ReadSecond first) error = ⊥
-IsRefused (Mend mending) error = ⊥
-IsRefused (SettleMend mending) error = ⊥
-IsRefused (ReadImage journal) error = ⊥
-IsRefused (Replay replay) error = ⊥
-IsRefused (Ready head) error = ⊥
-IsRefused (Refused refusal) error = refusal.error ≡ error
+abbrev pub HasEnded : RecoverStage → RecoverError → Type 0
+HasEnded Ask error = ⊥
+HasEnded (Settle size) error = ⊥
+HasEnded (ReadFirst size) error = ⊥
+HasEnded (ReadSecond first) error = ⊥
+HasEnded (Mend mending) error = ⊥
+HasEnded (SettleMend mending) error = ⊥
+HasEnded (ReadImage journal) error = ⊥
+HasEnded (Replay replay) error = ⊥
+HasEnded (Ready head) error = ⊥
+HasEnded (Refused refusal) error = refusal.error ≡ error
 
 -- whether the stage is the end, with a refusal
 abbrev pub is_refused : RecoverStage → Bool
@@ -142,22 +143,14 @@ is_refused (Refused refusal) = true
 
 -- after a fault and for want of memory the same call is due, and else the recovery has ended with this error
 abbrev pub StandsAfter : RecoverStage → RecoverStage → RecoverError → Type 0
-StandsAfter old new (NotAStore place) = IsRefused new (NotAStore place)
-StandsAfter old new (Damaged place kept found) = IsRefused new (Damaged place kept found)
-StandsAfter old new (Unfit place why) = IsRefused new (Unfit place why)
-StandsAfter old new Rebuilding = IsRefused new Rebuilding
+StandsAfter old new (NotAStore place) = HasEnded new (NotAStore place)
+StandsAfter old new (Damaged place kept found) = HasEnded new (Damaged place kept found)
+StandsAfter old new (Unfit place why) = HasEnded new (Unfit place why)
+StandsAfter old new Rebuilding = HasEnded new Rebuilding
 StandsAfter old new DiskFault = due_of new ≡ due_of old
 StandsAfter old new Memory = due_of new ≡ due_of old
 
 -- ---- what is known of its disk
-
--- what reads of a disk give
-abbrev pub reads_of : DiskState → ℕ → List ℕ
-reads_of d = λ place. read_at d place
-
--- what a disk recovers to
-abbrev pub recovery_on : DiskState → Result Recovered RecoverError
-recovery_on d = recovery_of d.size (reads_of d)
 
 -- the newest candidate of a place
 abbrev pub newest_of : Cell → List ℕ
@@ -291,8 +284,7 @@ reads_whole d place = λ other. if other == place then newest_of (d.cells other)
 
 -- the place was hurt, and it recovers to what it would have, were that place whole
 pub record RecoversWhole (begun : DiskState) (place : ℕ) (new : DiskState) : Type 0 where
-  pub bytes : List ℕ
-  pub hurt : (begun.cells place).hurt ≡ Some bytes
+  pub hurt : IsHurt begun place
   pub recovers : recovery_on new ≡ recovery_of begun.size (reads_whole begun place)
 
 -- what a disk recovers to that a crash leaves at a stage. Up to the first sync nothing was changed. From then on it is

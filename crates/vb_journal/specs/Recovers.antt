@@ -10,7 +10,8 @@ use Rattle.vb_journal.specs.declared.recover_error.RecoverError.TheVariants.{Not
 use Rattle.vb_journal.specs.declared.recover_stage.RecoverStage.{RecoverStage}
 use Rattle.vb_journal.specs.declared.recover_stage.RecoverStage.TheVariants.{Ask, Settle, ReadFirst, ReadSecond, Mend, SettleMend, ReadImage, Replay, Ready, Refused}
 use Rattle.vb_journal.specs.Recoveries.{Recovered, journal_place}
-use Rattle.vb_journal.specs.Recovering.{due_of, images_by, recovery_on}
+use Rattle.vb_journal.specs.Outcomes.{recovery_on}
+use Rattle.vb_journal.specs.Recovering.{due_of, images_by}
 
 -- how far it has come
 abbrev pub recovery_stage : Recover → RecoverStage

@@ -1,9 +1,8 @@
 -- What a disk shows to one who reads it: which head counts, and the image of each node.
-use Rattle.std.specs.Prelude.{◌≡◌, ℕ, zero, suc, ◌+◌, ◌<◌, nat_lt, ◌==◌, if◌then◌else◌, List, [], ◌∷◌, Option, Some, None}
+use Rattle.std.specs.Prelude.{ℕ, zero, suc, ◌+◌, nat_lt, ◌==◌, if◌then◌else◌, List, [], ◌∷◌, Option, Some, None}
 use Rattle.vb_head.specs.declared.head.Head.{Head}
 use Rattle.vb_head.specs.declared.head.HeadRead.{HeadRead}
 use Rattle.vb_head.specs.declared.head.HeadRead.TheVariants.{Good, Bad, Alien, Unsealed, Blank}
-use Rattle.vb_head.specs.Heads.{count_of, head_read}
 use Rattle.vb_journal.specs.Images.{slot_of}
 
 -- the head that a page is, if it is one
@@ -21,10 +20,6 @@ greater (Some a) None = Some a
 greater None (Some b) = Some b
 greater None None = None
 
--- the head that counts of what reads give
-abbrev pub head_shown : (ℕ → List ℕ) → Option Head
-head_shown reads = greater (good_of (head_read (reads 0))) (good_of (head_read (reads 1)))
-
 -- what stands at so many places from this one on
 abbrev pub pages_from : (ℕ → List ℕ) → ℕ → ℕ → List (List ℕ)
 pages_from reads place zero = []
@@ -34,13 +29,3 @@ pages_from reads place (suc n) = reads place ∷ pages_from reads (place + 1) n
 abbrev pub image_over : List (List ℕ) → ℕ → List ℕ → List ℕ
 image_over [] slot home = home
 image_over (image ∷ images) slot home = image_over images slot (if slot_of image == slot then image else home)
-
--- what reads give is a store like the one with this head, at this epoch, with these images of its nodes
-pub record Shows (reads : ℕ → List ℕ) (head : Head) (epoch : ℕ) (images : ℕ → List ℕ) : Type 0 where
-  pub found : Head
-  pub counts : head_shown reads ≡ Some found
-  pub id : found.id ≡ head.id
-  pub blocks : found.blocks ≡ head.blocks
-  pub nodes : found.nodes ≡ head.nodes
-  pub epoch_is : found.epoch ≡ epoch
-  pub each : (slot : ℕ) → slot < head.nodes → image_over (pages_from reads (2 + head.nodes) (count_of found.state)) slot (reads (2 + slot)) ≡ images slot

@@ -29,6 +29,7 @@ pub struct Commit {
 
 impl Commit {
     ghost use Rattle.vb_journal.specs.Commits.{calls_left, epoch_of, head_of, images_of, stage_of};
+    ghost use Rattle.vb_journal.specs.Data.{LeavesFrom};
     ghost use Rattle.vb_journal.specs.Progress.{GoesOn, IsAtRest, IsCommitting};
     ghost use Rattle.vb_disk.specs.States.{DiskState};
     ghost use Rattle.vb_journal.specs.Images.{image_at};
@@ -39,6 +40,7 @@ impl Commit {
         ensures head { head_of result ≡ head }
         ensures epoch { epoch_of result ≡ epoch }
         ensures images { images_of result ≡ images }
+        ensures stage { stage_of result ≡ Stage.Journal 0 }
         ensures calls { length (calls_left result) ≡ 2 * length images + 10 }
 
         // Over a store at rest it is known at its first stage.
@@ -90,8 +92,12 @@ impl Commit {
         ensures seen { D.seen disk.new ≡ D.seen disk.old }
         ensures cause { HasCause DiskError.Failed (D.faults disk.old) (D.faults disk.new) result }
 
-        // Each moment within the step is known at the stage before or after it. Where no place is hurt by then, each
-        // crash shows the images from before the commit or the new ones, and from Committed on the new ones.
+        // No place of data is written. It stands, or has its newest candidate left where the step made a sync.
+        ensures data { LeavesFrom (2 + 2 * (head_of self.old).nodes) (D.told disk.old) (D.told disk.new) result }
+
+        // Each moment within the step is known at the stage before or after it, and each crash at it leaves a disk
+        // that recovers to the images from before the commit or to the new ones, and from Committed on to the new
+        // ones, but for what was hurt before the crash. So it does wholly where heads and homes were whole.
         ensures crash { (homes journal : ℕ → List ℕ) → GoesOn (head_of self.old) (epoch_of self.old) (images_of self.old) homes journal
             (stage_of self.old) (stage_of self.new) (D.told disk.old) (D.told disk.new) }
     {

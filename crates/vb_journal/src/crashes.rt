@@ -1,20 +1,43 @@
-// What crashes show while a commit goes on, and what damage leaves.
-ghost use Rattle.std.specs.Prelude.{ℕ, List, ◌+◌, ◌*◌};
-ghost use Rattle.vb_disk.specs.Crashes.{damaged};
-ghost use Rattle.vb_disk.specs.States.{DiskState};
+// What crashes leave while a commit goes on, and what damage leaves.
+ghost use Rattle.std.specs.Prelude.{◌≡◌, ℕ, List, [], ◌+◌, ◌*◌, ◌≤◌};
+ghost use Rattle.vb_disk.specs.Crashes.{damaged, MayCrashTo};
+ghost use Rattle.vb_disk.specs.States.{synced, written, DiskState, IsDiskState};
 ghost use Rattle.vb_head.specs.declared.head.Head.{Head};
+ghost use Rattle.vb_head.specs.declared.head.State.TheVariants.{Closed};
+ghost use Rattle.vb_head.specs.Heads.{IsInRange};
 ghost use Rattle.vb_journal.specs.declared.commit_stage.Stage.{Stage};
 ghost use Rattle.vb_journal.specs.declared.commit_stage.Stage.TheVariants.{Rested};
-ghost use Rattle.vb_journal.specs.Plans.{CanGoOn, CanFinish, closed_head};
-ghost use Rattle.vb_journal.specs.Progress.{AfterCrash, AreUnhurt, HaveSameCandidates, IsAtRest, IsCommitting, ShowsAt, new_images, new_journal};
+ghost use Rattle.vb_journal.specs.Outcomes.{RecoversWholly};
+ghost use Rattle.vb_journal.specs.Plans.{closed_head, CanCommit, CanFinish, CanGoOn};
+ghost use Rattle.vb_journal.specs.Progress.{new_images, new_journal, EachCrashRecovers, EachCrashRecoversWholly, EachCrashStays, HasSameCandidates, IsAtRest, IsCommitting, IsUnharmed};
 
-/// After each crash of a disk that is known at a stage of a commit and has no hurt place of a head, a node or the
-/// journal, whichever candidates it picks and whatever it tears, reads show the node images from before the commit
-/// or the new ones, and from Committed on the new ones.
-pub fn each_crash_shows()
+/// What may be committed can go on from each stage.
+pub fn a_commit_can_go_on()
+    ensures { (head : Head) (epoch : ℕ) (images : List (List ℕ)) (stage : Stage) → CanCommit head epoch images → CanGoOn head epoch images stage }
+{}
+
+/// After each crash of a disk that is known at a stage of a commit, whichever candidates it picks and whatever it
+/// tears, the disk recovers to the node images from before the commit or to the new ones, and from Committed on to
+/// the new ones. Places that were hurt before the crash may be missed, and a hurt head or image may be refused.
+pub fn each_crash_recovers()
     ensures { (head : Head) (epoch : ℕ) (images : List (List ℕ)) (homes journal : ℕ → List ℕ) (stage : Stage) (d : DiskState)
-        → CanGoOn head epoch images stage → IsCommitting head epoch images homes journal stage d → AreUnhurt (2 + 2 * head.nodes) d
-        → AfterCrash (ShowsAt head epoch images homes stage) d }
+        → CanGoOn head epoch images stage → IsDiskState d → IsCommitting head epoch images homes journal stage d
+        → EachCrashRecovers head epoch images homes stage d }
+{}
+
+/// So does each crash of a store at rest, to the head and the images that it has.
+pub fn each_crash_at_rest_recovers()
+    ensures { (head : Head) (homes journal : ℕ → List ℕ) (d : DiskState) → IsInRange head → head.state ≡ Closed → IsDiskState d
+        → IsAtRest head homes journal d → EachCrashStays head homes d }
+{}
+
+/// Where the disk is unharmed, each crash of it recovers wholly: nothing is missed and nothing refused.
+pub fn an_unharmed_disk_recovers_wholly()
+    ensures commit { (head : Head) (epoch : ℕ) (images : List (List ℕ)) (homes : ℕ → List ℕ) (stage : Stage) (d : DiskState)
+        → IsUnharmed head images stage d → EachCrashRecovers head epoch images homes stage d
+        → EachCrashRecoversWholly head epoch images homes stage d }
+    ensures rest { (head : Head) (homes : ℕ → List ℕ) (d new : DiskState) → IsUnharmed head [] Rested d → EachCrashStays head homes d
+        → MayCrashTo d new → RecoversWholly new head homes }
 {}
 
 /// A commit that rests leaves a store at rest, with the closed head and the new images, over which the next one may
@@ -25,12 +48,17 @@ pub fn a_rested_commit_is_at_rest()
         → IsAtRest (closed_head head epoch) (new_images images homes) (new_journal images journal) d }
 {}
 
-/// What is known of a commit is known of its candidates, so that damage at any moment leaves it.
-pub fn damage_leaves_a_commit()
-    ensures damage { (d : DiskState) (place : ℕ) (page : List ℕ) → HaveSameCandidates d (damaged d place page) }
+/// What is known of a store is known of the candidates of its heads, homes and journal. So damage at any moment leaves
+/// it, and so does a write to a place of data.
+pub fn damage_and_data_leave_a_store()
+    ensures damage { (end : ℕ) (d : DiskState) (place : ℕ) (page : List ℕ) → HasSameCandidates end d (damaged d place page) }
+    ensures data { (end : ℕ) (d : DiskState) (place : ℕ) (page : List ℕ) → end ≤ place → HasSameCandidates end d (written d place page) }
     ensures commit { (head : Head) (epoch : ℕ) (images : List (List ℕ)) (homes journal : ℕ → List ℕ) (stage : Stage) (old new : DiskState)
-        → HaveSameCandidates old new → IsCommitting head epoch images homes journal stage old
-        → IsCommitting head epoch images homes journal stage new }
-    ensures rest { (head : Head) (homes journal : ℕ → List ℕ) (old new : DiskState)
-        → HaveSameCandidates old new → IsAtRest head homes journal old → IsAtRest head homes journal new }
+        → CanFinish head epoch images → HasSameCandidates (2 + 2 * head.nodes) old new
+        → IsCommitting head epoch images homes journal stage old → IsCommitting head epoch images homes journal stage new }
+    ensures rest { (head : Head) (homes journal : ℕ → List ℕ) (old new : DiskState) → HasSameCandidates (2 + 2 * head.nodes) old new
+        → IsAtRest head homes journal old → IsAtRest head homes journal new }
+
+    // A sync leaves a store at rest too.
+    ensures synced { (head : Head) (homes journal : ℕ → List ℕ) (d : DiskState) → IsAtRest head homes journal d → IsAtRest head homes journal (synced d) }
 {}

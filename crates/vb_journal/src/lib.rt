@@ -16,7 +16,10 @@ mod replay;
 
 pub use commit::{Commit, Images};
 pub use commit_stage::{CommitStep, Stage, Turn};
-pub use crashes::{a_rested_commit_is_at_rest, damage_leaves_a_commit, each_crash_shows};
+pub use crashes::{
+    a_commit_can_go_on, a_rested_commit_is_at_rest, an_unharmed_disk_recovers_wholly,
+    damage_and_data_leave_a_store, each_crash_at_rest_recovers, each_crash_recovers,
+};
 pub use recover::{Ahead, Recover};
 pub use recover_error::RecoverError;
 pub use vb_head::{Head, HeadRead, State, read_head, write_head};

@@ -29,7 +29,7 @@ pub struct Recover {
 }
 
 impl Recover {
-    ghost use Rattle.vb_journal.specs.Recovering.{blocks_of, due_of, IsRecovering, IsRefused, MakesCall, RecoversOn, SeenStays, StandsAfter};
+    ghost use Rattle.vb_journal.specs.Recovering.{blocks_of, due_of, IsRecovering, HasEnded, MakesCall, RecoversOn, SeenStays, StandsAfter};
     ghost use Rattle.vb_journal.specs.Recovers.{lent_image, ready_head, recovery_stage, AnswersRecovery, IsAheadOf, Lends};
 
     /// A recovery that begins.
@@ -52,7 +52,7 @@ impl Recover {
         ensures calls { MakesCall (due_of (recovery_stage self.old)) (D.told disk.old) (D.told disk.new) result }
         ensures ahead { IfOk result (λ ahead. IsAheadOf ahead (recovery_stage self.new)) }
         ensures error { IfErr result (StandsAfter (recovery_stage self.old) (recovery_stage self.new)) }
-        ensures again { (error : RecoverError) → IsRefused (recovery_stage self.old) error → result ≡ Err error }
+        ensures again { (error : RecoverError) → HasEnded (recovery_stage self.old) error → result ≡ Err error }
         ensures cause { HasCause RecoverError.DiskFault (D.faults disk.old) (D.faults disk.new) result }
         ensures differ { (place : ℕ) (kept found : List ℕ) → result ≡ Err (RecoverError.Damaged place kept found) → kept ≢ found }
         ensures seen { SeenStays (due_of (recovery_stage self.old)) (D.seen disk.old) (D.seen disk.new) }

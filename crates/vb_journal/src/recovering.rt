@@ -9,7 +9,8 @@ ghost use Rattle.vb_journal.specs.Commits.{epoch_of, head_of, images_of, stage_o
 ghost use Rattle.vb_journal.specs.Images.{AreImages};
 ghost use Rattle.vb_journal.specs.Plans.{closed_head};
 ghost use Rattle.vb_journal.specs.Recoveries.{image_refusal, is_rebuilding, is_retried, journal_of, journal_place, journal_refusal};
-ghost use Rattle.vb_journal.specs.Recovering.{blocks_of, due_of, images_by, is_refused, reads_of, HasBothHeads, HasRead, HasReadFirst, IsRecovering, IsReplaying, MakesCall, RecoversOn, SeenStays, StandsAfter, TakesImage, IsRefused};
+ghost use Rattle.vb_journal.specs.Outcomes.{reads_of};
+ghost use Rattle.vb_journal.specs.Recovering.{blocks_of, due_of, images_by, is_refused, HasBothHeads, HasRead, HasReadFirst, IsRecovering, IsReplaying, MakesCall, RecoversOn, SeenStays, StandsAfter, TakesImage, HasEnded};
 ghost use Rattle.vb_journal.specs.Replays.{is_late};
 
 use crate::choice::{LEAST_SIZE, are_one_head, choose_head, other_place};
@@ -36,7 +37,7 @@ pub(crate) fn step_from<D: Disk>(stage: RecoverStage, alloc: Global, disk: &mut 
     ensures known { RecoversOn stage result.0 (D.told disk.old) (D.told disk.new) }
     ensures seen { SeenStays (due_of stage) (D.seen disk.old) (D.seen disk.new) }
     ensures image { OnOk result.1 (TakesImage stage result.0 (D.told disk.old)) }
-    ensures refused { (error : RecoverError) → IsRefused stage error → result.1 ≡ Err error }
+    ensures refused { (error : RecoverError) → HasEnded stage error → result.1 ≡ Err error }
     ensures blocks { blocks_of result.0 ≤ D.seen disk.new }
     ensures going { OnOk result.1 (is_refused result.0 ≡ false) }
     ensures cause { HasCause RecoverError.DiskFault (D.faults disk.old) (D.faults disk.new) result.1 }

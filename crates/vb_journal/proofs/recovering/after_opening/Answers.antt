@@ -3,7 +3,7 @@ use Rattle.vb_head.specs.declared.head.State.{State}
 use Rattle.vb_head.specs.declared.head.State.TheVariants.{Opened}
 use Rattle.vb_head.specs.Heads.{count_of}
 use Rattle.vb_journal.specs.Recoveries.{images_refusal, journal_of, journal_place}
-use Rattle.vb_journal.specs.Recovering.{reads_of}
+use Rattle.vb_journal.specs.Outcomes.{reads_of}
 use Rattle.vb_journal.specs.Shown.{pages_from}
 use Rattle.vb_journal.proofs.recovering.after_opening.Goals as goal
 
