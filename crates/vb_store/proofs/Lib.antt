@@ -1,5 +1,6 @@
 pub mod CallsMade
 pub mod Chains
+pub mod ClaimsMade
 pub mod CrashesOfClear
 pub mod EmptyNodes
 pub mod EmptyStores
@@ -7,6 +8,7 @@ pub mod EmptyViews
 pub mod Faultless
 pub mod FilesKept
 pub mod Homes
+pub mod HomesTold
 pub mod MadeEmpty
 pub mod MapLists
 pub mod MountRests

@@ -46,7 +46,7 @@ rest-claimed reads head slots m ms nodes claims is =
     let claimed : Mapped = record { slots = nodes; claims = with_claim claims m.reference.place } in
     let more : Mapped → Result Mapped RecoverError = λ k. and_then (after_page m (reads m.reference.place) k) (maps_left reads places ms) in
     let first : after_claim (places m.slot) m known ≡ Ok claimed =
-        claim_then (places m.slot) (with_claim claims m.reference.place) (claim_answer claims m.reference.place) (λ c. Ok (record known { claims = c })) is in
+    claim_then (places m.slot) (with_claim claims m.reference.place) (claim_answer claims m.reference.place) (λ c. Ok (record known { claims = c })) is in
     sym (ap (λ (r : Result Mapped RecoverError). and_then (and_then r more) fin) first ∙ and_then-assoc (after_page m (reads m.reference.place) claimed) (maps_left reads places ms) fin)
 
 -- one whose place was refused ends the mount
@@ -57,7 +57,7 @@ rest-refused reads head slots m ms nodes claims why is =
     let known : Mapped = record { slots = nodes; claims = claims } in
     let more : Mapped → Result Mapped RecoverError = λ k. and_then (after_page m (reads m.reference.place) k) (maps_left reads places ms) in
     let first : after_claim (places m.slot) m known ≡ Err (Unfit (places m.slot) why) =
-        claim_refused (places m.slot) (with_claim claims m.reference.place) (claim_answer claims m.reference.place) why (λ c. Ok (record known { claims = c })) is in
+    claim_refused (places m.slot) (with_claim claims m.reference.place) (claim_answer claims m.reference.place) why (λ c. Ok (record known { claims = c })) is in
     ap (λ (r : Result Mapped RecoverError). and_then (and_then r more) (λ end. Ok (metadata_at head end))) first
 
 -- the next one of some map pages
@@ -217,7 +217,7 @@ pub rest-survey : (reads : ℕ → List ℕ) (h : Homes) (node : Node) (named : 
     → rest_of_maps reads h.head h.slots.items maps (record { slots = index.nodes; claims = claims }) ≡ rest_of reads (ReadHome h)
 rest-survey reads h node named listed index claims maps read last names same is none all =
     let made : index_or_refusal h.place (block_place h.slots.items h.head.nodes) (index_from (limits_of h.head) (h.nodes ++ node ∷ [])) ≡ Ok index =
-        sym (ap (λ (s : List ℕ). index_or_refusal h.place (block_place s h.head.nodes) (index_from (limits_of h.head) listed)) names ∙ ap (λ (l : List Node). index_or_refusal h.place (block_place h.slots.items h.head.nodes) (index_from (limits_of h.head) l)) same) ∙ is in
+    sym (ap (λ (s : List ℕ). index_or_refusal h.place (block_place s h.head.nodes) (index_from (limits_of h.head) listed)) names ∙ ap (λ (l : List Node). index_or_refusal h.place (block_place h.slots.items h.head.nodes) (index_from (limits_of h.head) l)) same) ∙ is in
     ap (λ (c : ClaimsState). rest_of_maps reads h.head h.slots.items maps (record { slots = index.nodes; claims = c })) none
     ∙ ap (λ (l : List MapPage). rest_of_maps reads h.head h.slots.items l (record { slots = index.nodes; claims = no_claims h.head })) all
     ∙ sym (rest-last reads h node read last ∙ ap (λ (r : Result IndexState RecoverError). and_then r (rest_of_index reads h.head h.slots.items)) made)
@@ -228,12 +228,12 @@ pub survey-stopped : (reads : ℕ → List ℕ) (h back : Homes) (node : Node) (
     → IsDue (index_or_refusal h.place (block_place named h.head.nodes) (index_from (limits_of h.head) listed)) (Err error) → rest_of reads after ≡ rest_of reads (ReadHome h)
 survey-stopped reads h back node named listed error after read last names same head place slots nodes stops due =
     let made : index_or_refusal h.place (block_place named h.head.nodes) (index_from (limits_of h.head) listed) ≡ index_or_refusal h.place (block_place h.slots.items h.head.nodes) (index_from (limits_of h.head) (h.nodes ++ node ∷ [])) =
-        ap (λ (s : List ℕ). index_or_refusal h.place (block_place s h.head.nodes) (index_from (limits_of h.head) listed)) names ∙ ap (λ (l : List Node). index_or_refusal h.place (block_place h.slots.items h.head.nodes) (index_from (limits_of h.head) l)) same in
+    ap (λ (s : List ℕ). index_or_refusal h.place (block_place s h.head.nodes) (index_from (limits_of h.head) listed)) names ∙ ap (λ (l : List Node). index_or_refusal h.place (block_place h.slots.items h.head.nodes) (index_from (limits_of h.head) l)) same in
     let rest : rest_of reads (ReadHome back) ≡ rest_of reads (ReadHome h) =
-        ap (λ (x : Head). rest_of_homes reads x back.place back.slots.items (x.nodes - length back.nodes) back.nodes) head
-        ∙ ap (λ (p : ℕ). rest_of_homes reads h.head p back.slots.items (h.head.nodes - length back.nodes) back.nodes) place
-        ∙ ap (λ (s : List ℕ). rest_of_homes reads h.head h.place s (h.head.nodes - length back.nodes) back.nodes) slots
-        ∙ ap (λ (l : List Node). rest_of_homes reads h.head h.place h.slots.items (h.head.nodes - length l) l) nodes in
+    ap (λ (x : Head). rest_of_homes reads x back.place back.slots.items (x.nodes - length back.nodes) back.nodes) head
+    ∙ ap (λ (p : ℕ). rest_of_homes reads h.head p back.slots.items (h.head.nodes - length back.nodes) back.nodes) place
+    ∙ ap (λ (s : List ℕ). rest_of_homes reads h.head h.place s (h.head.nodes - length back.nodes) back.nodes) slots
+    ∙ ap (λ (l : List Node). rest_of_homes reads h.head h.place h.slots.items (h.head.nodes - length l) l) nodes in
     rest-stopped reads (ReadHome back) after (index_or_refusal h.place (block_place h.slots.items h.head.nodes) (index_from (limits_of h.head) (h.nodes ++ node ∷ []))) error (rest_of_index reads h.head h.slots.items) stops
     (subst (λ (r : Result IndexState RecoverError). IsDue r (Err error)) made due) (rest ∙ rest-last reads h node read last)
     ∙ rest

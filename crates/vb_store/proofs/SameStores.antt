@@ -41,12 +41,12 @@ use Rattle.vb_store.proofs.Chains.{and_then-ok, refuse-ok, unless-ok}
 
 -- ---- heads
 
-settled-nodes : (h : Head) (s : State) → (settled_from h s).nodes ≡ h.nodes
+pub settled-nodes : (h : Head) (s : State) → (settled_from h s).nodes ≡ h.nodes
 settled-nodes h Closed = refl
 settled-nodes h (Opened count) = refl
 settled-nodes h Rebuilding = refl
 
-settled-blocks : (h : Head) (s : State) → (settled_from h s).blocks ≡ h.blocks
+pub settled-blocks : (h : Head) (s : State) → (settled_from h s).blocks ≡ h.blocks
 settled-blocks h Closed = refl
 settled-blocks h (Opened count) = refl
 settled-blocks h Rebuilding = refl
@@ -120,12 +120,12 @@ pub record HaveSameSize (head other : Head) : Type 0 where
   pub blocks : other.blocks ≡ head.blocks
   pub nodes : other.nodes ≡ head.nodes
 
-limits-same : (head other : Head) → HaveSameSize head other → limits_of other ≡ limits_of head
+pub limits-same : (head other : Head) → HaveSameSize head other → limits_of other ≡ limits_of head
 limits-same head other size =
     ap (λ (b : ℕ). let l : Limits = record { pages = (b - 2 - 2 * other.nodes) / 2; nodes = other.nodes } in l) size.blocks
     ∙ ap (λ (n : ℕ). let l : Limits = record { pages = (head.blocks - 2 - 2 * n) / 2; nodes = n } in l) size.nodes
 
-claims-same : (head other : Head) → HaveSameSize head other → no_claims other ≡ no_claims head
+pub claims-same : (head other : Head) → HaveSameSize head other → no_claims other ≡ no_claims head
 claims-same head other size =
     ap (λ (b : ℕ). let c : ClaimsState = record { first = 2 + 2 * other.nodes; taken = replicate (b - (2 + 2 * other.nodes)) false } in c) size.blocks
     ∙ ap (λ (n : ℕ). let c : ClaimsState = record { first = 2 + 2 * n; taken = replicate (head.blocks - (2 + 2 * n)) false } in c) size.nodes
@@ -150,8 +150,8 @@ maps_left-same old new places others (m ∷ ms) known end same =
     (λ claimed. and_then (after_page m (old m.reference.place) claimed) (maps_left old places ms)) (λ claimed. and_then (after_page m (new m.reference.place) claimed) (maps_left new others ms)) end
     (λ claimed. after_claim-moved (places m.slot) (others m.slot) m known claimed)
     (λ claimed. and_then-same (after_page m (old m.reference.place) claimed) (after_page m (new m.reference.place) claimed) (maps_left old places ms) (maps_left new others ms) end
-        (λ next was. ap (λ (page : List ℕ). after_page m page claimed) (All-head Same m ms same) ∙ was)
-        (λ next. maps_left-same old new places others ms next end (All-tail Same m ms same)))
+    (λ next was. ap (λ (page : List ℕ). after_page m page claimed) (All-head Same m ms same) ∙ was)
+    (λ next. maps_left-same old new places others ms next end (All-tail Same m ms same)))
 
 -- references of pages change no node
 maps_of-with_ref : (page : ℕ) (r : Ref) (o : Option Held) → maps_of (option_map (with_ref page r) o) ≡ maps_of o

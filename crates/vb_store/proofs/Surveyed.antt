@@ -91,26 +91,26 @@ pub files_of_nodes : (nodes : ℕ) (found : List Node) → AreRead nodes found �
 files_of_nodes nodes found read =
     let Of : Node → Type 0 = λ n. IsNodeOf nodes n in
     all_maps (IsOfFile (held_of found)) found (All-from_get_or (λ n. All (IsOfFile (held_of found)) (maps_of_node n)) found free_node (λ i within.
-        let node : Node = get_or found i free_node in
-        let of : IsNodeOf nodes node = All-get_or Of found i free_node within read.of_store in
-        let total : ℕ = data_pages_of node.length in
-        let many : length (unwrap_or (refs_at (held_of found) i) []) ≡ total =
-            ap (λ (o : Option Held). length (unwrap_or (option_and_then refs_of o) [])) (get_or-map held_from found i free_node None within) ∙ many_held node of.in_range.measured in
-        All-weaker (IsPart node.slot total) (IsOfFile (held_of found)) (λ m part.
-            subst (λ (slot : ℕ). m.first + m.count ≤ length (unwrap_or (refs_at (held_of found) slot) [])) (sym (part.slot_is ∙ read.own_slots i within)) (subst (λ (n : ℕ). m.first + m.count ≤ n) (sym many) part.within))
-        (maps_of_node node) (parts node.slot 0 total total node.maps of.in_range.mapped (λ some. omega arith))))
+    let node : Node = get_or found i free_node in
+    let of : IsNodeOf nodes node = All-get_or Of found i free_node within read.of_store in
+    let total : ℕ = data_pages_of node.length in
+    let many : length (unwrap_or (refs_at (held_of found) i) []) ≡ total =
+    ap (λ (o : Option Held). length (unwrap_or (option_and_then refs_of o) [])) (get_or-map held_from found i free_node None within) ∙ many_held node of.in_range.measured in
+    All-weaker (IsPart node.slot total) (IsOfFile (held_of found)) (λ m part.
+    subst (λ (slot : ℕ). m.first + m.count ≤ length (unwrap_or (refs_at (held_of found) slot) [])) (sym (part.slot_is ∙ read.own_slots i within)) (subst (λ (n : ℕ). m.first + m.count ≤ n) (sym many) part.within))
+    (maps_of_node node) (parts node.slot 0 total total node.maps of.in_range.mapped (λ some. omega arith))))
 
 -- each has as many map references as its length takes
 pub maps_of_read : (nodes : ℕ) (found : List Node) → nodes ≤ 65536 → length found ≤ nodes → AreRead nodes found → All HasMaps found
 maps_of_read nodes found few within read =
     let Of : Node → Type 0 = λ n. IsNodeOf nodes n in
     All-from_get_or HasMaps found free_node (λ i below.
-        let of : IsNodeOf nodes (get_or found i free_node) = All-get_or Of found i free_node below read.of_store in
-        record {
-          slot = omega (arith, read.own_slots i below);
-          short = (map_pages-few (get_or found i free_node).kind (get_or found i free_node).length of.in_range.measured).0;
-          mapped = of.in_range.mapped;
-        })
+    let of : IsNodeOf nodes (get_or found i free_node) = All-get_or Of found i free_node below read.of_store in
+    record {
+      slot = omega (arith, read.own_slots i below);
+      short = (map_pages-few (get_or found i free_node).kind (get_or found i free_node).length of.in_range.measured).0;
+      mapped = of.in_range.mapped;
+    })
 
 -- all of them are the nodes of a store
 pub by_slot : (nodes : ℕ) (found : List Node) → length found ≡ nodes → AreRead nodes found → AreBySlot found

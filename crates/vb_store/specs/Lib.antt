@@ -7,6 +7,7 @@ pub mod MountStages
 pub mod Mounting
 pub mod NodesRead
 pub mod Recovered
+pub mod RecoveredStores
 pub mod Runs
 pub mod Sameness
 pub mod Surveys

@@ -14,6 +14,7 @@ mod mount_reads;
 mod mount_stage;
 mod new_homes;
 mod node_blocks;
+mod recovered_stores;
 mod same_stores;
 mod surveys;
 mod used_places;
@@ -25,6 +26,7 @@ pub use empty_stores::{
 };
 pub use format_error::FormatError;
 pub use formatting::format;
+pub use recovered_stores::homes_tell_what_the_blocks_told;
 pub use same_stores::the_same_store_has_the_same_metadata;
 pub use view::{Mounted, View};
 

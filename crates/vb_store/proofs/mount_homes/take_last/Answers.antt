@@ -25,7 +25,7 @@ returns-in-Ok-clause-rest c =
     let all : c.slice.result.now ≡ h.nodes ++ c.args.node ∷ [] = c.slice.ensures ∙ on_ok _ c.add.result c.if-is_err.ensures.value c.add.ensures.ok in
     let e = c.in-Ok.ensures in
     λ reads read. c.go_on.ensures.rest reads
-        ∙ rest-survey reads h c.args.node c.deref.result.now c.slice.result.now c.in-Ok.survey.index c.in-Ok.survey.claims c.in-Ok.survey.maps.items read c.requires.last c.deref.ensures.value all e.index e.claims e.maps
+    ∙ rest-survey reads h c.args.node c.deref.result.now c.slice.result.now c.in-Ok.survey.index c.in-Ok.survey.claims c.in-Ok.survey.maps.items read c.requires.last c.deref.ensures.value all e.index e.claims e.maps
 
 pub returns-in-Err-clause-rest : goal.returns-in-Err-clause-rest
 returns-in-Err-clause-rest c =
@@ -33,7 +33,7 @@ returns-in-Err-clause-rest c =
     let added : c.add.new.self ≡ h.nodes ++ c.args.node ∷ [] = on_ok _ c.add.result c.if-is_err.ensures.value c.add.ensures.ok in
     let w = c.without_last-homes.ensures in
     λ reads read. survey-stopped reads h c.without_last-homes.result c.args.node c.deref.result.now c.slice.result.now c.in-Err.error c.stopped.result.0 read c.requires.last c.deref.ensures.value (c.slice.ensures ∙ added)
-        w.head w.place w.slots (w.nodes h.nodes c.args.node added) c.stopped.ensures.stage c.in-Err.ensures
+    w.head w.place w.slots (w.nodes h.nodes c.args.node added) c.stopped.ensures.stage c.in-Err.ensures
 
 pub returns-in-Err-clause-error : goal.returns-in-Err-clause-error
 returns-in-Err-clause-error c =

@@ -11,4 +11,4 @@ returns-in-Ok-clause-rest c =
 pub returns-in-Err-clause-rest : goal.returns-in-Err-clause-rest
 returns-in-Err-clause-rest c =
     λ reads. ap (rest_of reads) c.refused.ensures.stage ∙ sym (rest-unnamed reads c.args.tree.head c.args.tree.slots.items c.args.tree.maps.items c.args.tree.next c.index-map.result.now c.args.tree.index.nodes c.args.tree.claims c.in-Err.why c.block_place-place.result (omega arith) c.index-map.ensures c.in-Err.ensures.answer
-        (c.block_place-place.ensures ∙ ap (λ (l : List ℕ). block_place l c.args.tree.head.nodes c.index-map.result.now.slot) c.deref.ensures.value))
+    (c.block_place-place.ensures ∙ ap (λ (l : List ℕ). block_place l c.args.tree.head.nodes c.index-map.result.now.slot) c.deref.ensures.value))

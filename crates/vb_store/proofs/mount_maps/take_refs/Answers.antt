@@ -21,10 +21,10 @@ pub returns-in-Ok-clause-rest : goal.returns-in-Ok-clause-rest
 returns-in-Ok-clause-rest c =
     let t = c.args.claimed.tree in
     λ reads checked. c.go_on.ensures.rest reads
-        ∙ rest-taken-by reads t.head t.slots.items c.args.claimed.map _ t.index.nodes c.set_refs.new.index.nodes t.claims c.claim_all.new.claims c.args.refs.now c.slice.result.now c.slice-in-Ok.result.now c.slice.ensures c.slice-in-Ok.ensures checked c.in-Ok.ensures.claimed c.set_refs.ensures.nodes
+    ∙ rest-taken-by reads t.head t.slots.items c.args.claimed.map _ t.index.nodes c.set_refs.new.index.nodes t.claims c.claim_all.new.claims c.args.refs.now c.slice.result.now c.slice-in-Ok.result.now c.slice.ensures c.slice-in-Ok.ensures checked c.in-Ok.ensures.claimed c.set_refs.ensures.nodes
 
 pub returns-in-Err-clause-rest : goal.returns-in-Err-clause-rest
 returns-in-Err-clause-rest c =
     let t = c.args.claimed.tree in
     λ reads checked. ap (rest_of reads) c.refused.ensures.stage
-        ∙ sym (rest-off-by reads t.head t.slots.items c.args.claimed.map _ t.index.nodes t.claims c.args.refs.now c.slice.result.now _ c.slice.ensures checked c.in-Err.ensures.claimed)
+    ∙ sym (rest-off-by reads t.head t.slots.items c.args.claimed.map _ t.index.nodes t.claims c.args.refs.now c.slice.result.now _ c.slice.ensures checked c.in-Err.ensures.claimed)
