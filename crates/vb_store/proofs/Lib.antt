@@ -12,6 +12,7 @@ pub mod HomesTold
 pub mod MadeEmpty
 pub mod MapLists
 pub mod MountRests
+pub mod PlacesUsed
 pub mod SameJournals
 pub mod SameStores
 pub mod SlotsRead
