@@ -3,3 +3,6 @@ pub mod Climbs
 pub mod Judging
 pub mod TreeFacts
 pub mod Placing
+pub mod WalkLaws
+pub mod ShapeLaws
+pub mod Forged

@@ -18,9 +18,9 @@ use Rattle.vb_index.specs.Nodes.{child_of, held_at, holds_folder, is_child, is_f
 use Rattle.vb_index.proofs.ChildLaws.{is_child-parts, same_name-Decides}
 use Rattle.vb_index.proofs.Positions.{position-nowhere}
 use Rattle.vb_nodes.specs.Paths.{free_node, node_at, parent_in}
-use Rattle.vb_nodes.specs.Faults.{has_lower_twin, is_entry}
+use Rattle.vb_nodes.specs.Faults.{has_lower_twin, is_entry, IsNodeTree}
 use Rattle.vb_nodes.specs.Holdings.{blank_ref, held_from, held_of}
-use Rattle.vb_nodes.specs.Building.{depth_of, is_placed, HoldsPlaced, IsNodeTree}
+use Rattle.vb_nodes.specs.Building.{depth_of, is_placed, HoldsPlaced}
 use Rattle.vb_nodes.proofs.NodeLaws.{node-of, node-past}
 use Rattle.vb_nodes.proofs.TreeFacts.{depth-above, depth-next, depth-of-root, entry-of-tree, root-of-tree}
 
@@ -123,12 +123,12 @@ placed-next nodes depth held h = record {
 -- ---- what may be put
 
 -- a folder isn't free
-folder_used : (kind : NodeKind) → is_folder_node kind ≡ true → is_free kind ≡ false
+pub folder_used : (kind : NodeKind) → is_folder_node kind ≡ true → is_free kind ≡ false
 folder_used Free e = absurd (false≢true e)
 folder_used Folder e = refl
 folder_used File e = refl
 
-held_used : (node : Node) → is_free node.kind ≡ false → held_from node ≡ Some (record { node = node; refs = replicate (data_pages_of node.length) blank_ref })
+pub held_used : (node : Node) → is_free node.kind ≡ false → held_from node ≡ Some (record { node = node; refs = replicate (data_pages_of node.length) blank_ref })
 held_used node used = ap (λ (b : Bool). cond b None (Some (let h : Held = record { node = node; refs = replicate (data_pages_of node.length) blank_ref } in h))) used
 
 -- what is put of a node is what an index holds of it
@@ -149,7 +149,7 @@ folder-placed nodes depth slot held tree h above lt used deep =
     ap holds_folder (h.each parent ∙ ap (λ (b : Bool). cond b (held_from (node_at nodes parent)) None) there ∙ held_used (node_at nodes parent) (folder_used (node_at nodes parent).kind entry.in_folder)) ∙ entry.in_folder
 
 -- a lower slot with the same parent and name is a twin
-twin_from : (nodes : List Node) (low high : ℕ) → low < high → high < length nodes → is_free (node_at nodes low).kind ≡ false → (node_at nodes low).parent ≡ parent_in nodes high → (node_at nodes low).name ≡ (node_at nodes high).name → has_lower_twin nodes high ≡ true
+pub twin_from : (nodes : List Node) (low high : ℕ) → low < high → high < length nodes → is_free (node_at nodes low).kind ≡ false → (node_at nodes low).parent ≡ parent_in nodes high → (node_at nodes low).name ≡ (node_at nodes high).name → has_lower_twin nodes high ≡ true
 twin_from nodes low high lt below used parents names =
     let p = is_entry (parent_in nodes high) (node_at nodes high).name in
     let first : not (is_free (node_at nodes low).kind) ≡ true = ap not used in
@@ -247,6 +247,12 @@ root_is node own folder parent named measured mapped =
     let maps = empty_is node.maps (mapped ∙ ap map_pages_of len) in
     nodes_same node root_held.node own kind parent name len maps
 
+pub root_node : (nodes : List Node) → IsNodeTree nodes → node_at nodes 0 ≡ root_held.node
+root_node nodes tree =
+    let of = node-of nodes 0 tree.by_slot tree.some in
+    let root = root-of-tree nodes tree in
+    root_is (node_at nodes 0) (tree.by_slot.own_slots 0 tree.some) root.0 root.1 of.in_range.named of.in_range.measured of.in_range.mapped
+
 -- at the begin there is the root
 pub placed-begin : (nodes : List Node) (limit : ℕ) (held : List (Option Held)) → IsNodeTree nodes → length nodes ≡ limit → held ≡ Some root_held ∷ replicate (limit - 1) None → HoldsPlaced nodes 1 0 held
 placed-begin nodes limit held tree len is = record {
@@ -261,14 +267,8 @@ placed-begin nodes limit held tree len is = record {
   root : (is_folder_node (node_at nodes 0).kind ≡ true) × (parent_in nodes 0 ≡ 0)
   root = root-of-tree nodes tree
 
-  of : IsNodeOf (length nodes) (node_at nodes 0)
-  of = node-of nodes 0 tree.by_slot tree.some
-
-  is_root : node_at nodes 0 ≡ root_held.node
-  is_root = root_is (node_at nodes 0) (tree.by_slot.own_slots 0 tree.some) root.0 root.1 of.in_range.named of.in_range.measured of.in_range.mapped
-
   at : (k : ℕ) → held_at (Some root_held ∷ replicate (limit - 1) None) k ≡ cond (is_placed nodes 1 0 k) (held_from (node_at nodes k)) None
-  at zero = sym (ap (λ (b : Bool). cond b (held_from (node_at nodes 0)) None) (placed-above (depth_of nodes 0) 1 0 0 (omega (arith, depth-of-root nodes root.1))) ∙ ap held_from is_root)
+  at zero = sym (ap (λ (b : Bool). cond b (held_from (node_at nodes 0)) None) (placed-above (depth_of nodes 0) 1 0 0 (omega (arith, depth-of-root nodes root.1))) ∙ ap held_from (root_node nodes tree))
   at (suc k) = none_at (limit - 1) k ∙ sym (ap (λ (b : Bool). cond b (held_from (node_at nodes (suc k))) None) (placed-not (depth_of nodes (suc k)) 1 (suc k) 0 (let deep = depth-above nodes (suc k) (omega arith) in omega arith) (λ e. omega arith)))
 
 -- at the end there are all nodes

@@ -10,8 +10,8 @@ use Rattle.vb_inode.specs.declared.node.Node.{Node}
 use Rattle.vb_inode.specs.Nodes.{is_free}
 use Rattle.vb_index.specs.Nodes.{is_folder_node}
 use Rattle.vb_nodes.specs.Paths.{ancestor, enough_steps, leads_to_root, node_at, own_part, parent_in, path_in, path_up}
-use Rattle.vb_nodes.specs.Faults.{fault_of_entry, fault_of_slot, has_lower_twin, is_root_node, refuse}
-use Rattle.vb_nodes.specs.Building.{depth_of, IsNodeTree}
+use Rattle.vb_nodes.specs.Faults.{fault_of_entry, fault_of_slot, has_lower_twin, is_root_node, refuse, IsNodeTree}
+use Rattle.vb_nodes.specs.Building.{depth_of}
 use Rattle.vb_nodes.proofs.Climbs.{path_up-add}
 use Rattle.vb_nodes.proofs.Judging.{fault-none-at}
 
@@ -77,28 +77,37 @@ pub path-of-root : (nodes : List Node) (steps : ℕ) → parent_in nodes 0 ≡ 0
 path-of-root nodes zero e = refl
 path-of-root nodes (suc n) e = append-nil (path_up nodes n (parent_in nodes 0)) ∙ ap (path_up nodes n) e ∙ path-of-root nodes n e
 
-one_part : (nodes : List Node) (slot : ℕ) → 0 < slot → length (own_part nodes slot) ≡ 1
-one_part nodes slot above = ap (λ (b : Bool). length (cond b [] ((node_at nodes slot).name ∷ []))) (eqb_false slot 0 (λ e. omega arith))
+-- the part of an entry is its name
+pub own_part-entry : (nodes : List Node) (slot : ℕ) → 0 < slot → own_part nodes slot ≡ (node_at nodes slot).name ∷ []
+own_part-entry nodes slot above = ap (λ (b : Bool). cond b [] ((node_at nodes slot).name ∷ [])) (eqb_false slot 0 (λ e. omega arith))
 
--- an entry's path has one part more than its folder's
-deeper : (nodes : List Node) (m slot : ℕ) → parent_in nodes 0 ≡ 0 → ancestor nodes (suc m) slot ≡ 0 → 0 < slot → length (path_up nodes (suc m) slot) ≡ length (path_up nodes (suc m) (parent_in nodes slot)) + 1
-deeper nodes m slot root up above =
+one_part : (nodes : List Node) (slot : ℕ) → 0 < slot → length (own_part nodes slot) ≡ 1
+one_part nodes slot above = ap length (own_part-entry nodes slot above)
+
+-- an entry's path is its folder's, and then its own part
+below_folder : (nodes : List Node) (m slot : ℕ) → parent_in nodes 0 ≡ 0 → ancestor nodes (suc m) slot ≡ 0 → path_up nodes (suc m) slot ≡ path_up nodes (suc m) (parent_in nodes slot) ++ own_part nodes slot
+below_folder nodes m slot root up =
     let parent = parent_in nodes slot in
     let e : suc m ≡ m + 1 = omega arith in
     let last : path_up nodes 1 (ancestor nodes m parent) ≡ [] = ap (path_up nodes 1) up ∙ path-of-root nodes 1 root in
     let same : path_up nodes (suc m) parent ≡ path_up nodes m parent = ap (λ (n : ℕ). path_up nodes n parent) e ∙ path_up-add nodes m 1 parent ∙ ap (λ (p : List (List ℕ)). p ++ path_up nodes m parent) last in
-    omega (arith, length-append (path_up nodes m parent) (own_part nodes slot), one_part nodes slot above, ap length same)
+    ap (λ (p : List (List ℕ)). p ++ own_part nodes slot) (sym same)
 
 enough-suc : (m : ℕ) × (enough_steps ≡ suc m)
 unfolding enough_steps
 enough-suc = (131071, refl)
 
-pub depth-next : (nodes : List Node) (slot : ℕ) → parent_in nodes 0 ≡ 0 → ancestor nodes enough_steps slot ≡ 0 → 0 < slot → depth_of nodes slot ≡ depth_of nodes (parent_in nodes slot) + 1
-depth-next nodes slot root up above =
+pub path-next : (nodes : List Node) (slot : ℕ) → parent_in nodes 0 ≡ 0 → ancestor nodes enough_steps slot ≡ 0 → path_in nodes slot ≡ path_in nodes (parent_in nodes slot) ++ own_part nodes slot
+path-next nodes slot root up =
     let m = enough-suc.0 in
     let e = enough-suc.1 in
     let up_m : ancestor nodes (suc m) slot ≡ 0 = ap (λ (n : ℕ). ancestor nodes n slot) (sym e) ∙ up in
-    ap (λ (n : ℕ). length (path_up nodes n slot)) e ∙ deeper nodes m slot root up_m above ∙ ap (λ (n : ℕ). length (path_up nodes n (parent_in nodes slot)) + 1) (sym e)
+    ap (λ (n : ℕ). path_up nodes n slot) e ∙ below_folder nodes m slot root up_m ∙ ap (λ (n : ℕ). path_up nodes n (parent_in nodes slot) ++ own_part nodes slot) (sym e)
+
+-- so it has one part more
+pub depth-next : (nodes : List Node) (slot : ℕ) → parent_in nodes 0 ≡ 0 → ancestor nodes enough_steps slot ≡ 0 → 0 < slot → depth_of nodes slot ≡ depth_of nodes (parent_in nodes slot) + 1
+depth-next nodes slot root up above =
+    omega (arith, ap length (path-next nodes slot root up), length-append (path_in nodes (parent_in nodes slot)) (own_part nodes slot), one_part nodes slot above)
 
 pub depth-of-root : (nodes : List Node) → parent_in nodes 0 ≡ 0 → depth_of nodes 0 ≡ 0
 depth-of-root nodes root = ap length (path-of-root nodes enough_steps root)

@@ -1,18 +1,10 @@
 -- Indexes that are being built: the nodes are put one depth after the other.
-use Rattle.std.specs.Prelude.{◌≡◌, ℕ, ◌≤◌, ◌<◌, ◌&&◌, ◌||◌, ◌==◌, Bool, nat_lt, if◌then◌else◌, List, length, Option, None}
+use Rattle.std.specs.Prelude.{◌≡◌, ℕ, ◌&&◌, ◌||◌, ◌==◌, Bool, nat_lt, if◌then◌else◌, List, length, Option, None}
 use Rattle.vb_inode.specs.declared.node.Node.{Node}
 use Rattle.vb_index.specs.declared.held.Held.{Held}
 use Rattle.vb_index.specs.Nodes.{held_at}
-use Rattle.vb_nodes.specs.Paths.{AreBySlot, node_at, path_in}
-use Rattle.vb_nodes.specs.Faults.{table_fault}
+use Rattle.vb_nodes.specs.Paths.{node_at, path_in}
 use Rattle.vb_nodes.specs.Holdings.{held_from}
-
--- the nodes are a tree
-pub record IsNodeTree (nodes : List Node) : Type 0 where
-  pub some : 0 < length nodes
-  pub few : length nodes ≤ 65536
-  pub by_slot : AreBySlot nodes
-  pub no_fault : table_fault nodes ≡ None
 
 -- how many parts the path of a slot has
 abbrev pub depth_of : List Node → ℕ → ℕ

@@ -1,5 +1,5 @@
 -- Which lists of nodes are a tree, and the first fault of one that isn't.
-use Rattle.std.specs.Prelude.{ℕ, zero, suc, Bool, true, false, not, ◌&&◌, ◌==◌, if◌then◌else◌, List, length, take, Option, Some, None}
+use Rattle.std.specs.Prelude.{◌≡◌, ℕ, zero, suc, ◌<◌, ◌≤◌, Bool, true, false, not, ◌&&◌, ◌==◌, if◌then◌else◌, List, length, take, Option, Some, None}
 use Rattle.std.specs.List.{list_any}
 use Rattle.std.specs.Option.{option_map, option_or}
 use Rattle.vb_block.specs.declared.why.Why.{Why}
@@ -8,7 +8,7 @@ use Rattle.vb_tree.specs.Renames.{is_deep}
 use Rattle.vb_inode.specs.declared.node.Node.{Node}
 use Rattle.vb_inode.specs.Nodes.{is_free}
 use Rattle.vb_index.specs.Nodes.{is_folder_node, same_name}
-use Rattle.vb_nodes.specs.Paths.{node_at, parent_in, leads_to_root, path_in}
+use Rattle.vb_nodes.specs.Paths.{node_at, parent_in, leads_to_root, path_in, AreBySlot}
 
 -- whether a node is a root: a folder whose parent is slot 0
 abbrev pub is_root_node : Node → Bool
@@ -55,3 +55,10 @@ fault_below nodes (suc slot) = option_or (fault_below nodes slot) (option_map (�
 -- the first fault of all slots, upwards; where there is none, the nodes are a tree
 abbrev pub table_fault : List Node → Option Fault
 table_fault nodes = fault_below nodes (length nodes)
+
+-- the nodes of a store, by slot, are a tree
+pub record IsNodeTree (nodes : List Node) : Type 0 where
+  pub some : 0 < length nodes
+  pub few : length nodes ≤ 65536
+  pub by_slot : AreBySlot nodes
+  pub no_fault : table_fault nodes ≡ None

@@ -5,3 +5,4 @@ pub mod Claiming
 pub mod Ascents
 pub mod Naming
 pub mod Building
+pub mod Walking

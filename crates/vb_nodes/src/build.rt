@@ -5,7 +5,8 @@ ghost use Rattle.vb_inode.specs.Nodes.{is_free};
 ghost use Rattle.vb_nodes.specs.Paths.{enough_steps, node_at};
 ghost use Rattle.vb_nodes.specs.Ascents.{AreAscents};
 ghost use Rattle.vb_nodes.specs.Holdings.{blank_ref, held_of};
-ghost use Rattle.vb_nodes.specs.Building.{depth_of, HoldsPlaced, IsNodeTree};
+ghost use Rattle.vb_nodes.specs.Faults.{IsNodeTree};
+ghost use Rattle.vb_nodes.specs.Building.{depth_of, HoldsPlaced};
 
 use crate::ascents::Ascent;
 use crate::checks::is_free;

@@ -7,14 +7,19 @@ mod checks;
 mod claims;
 mod errors;
 mod indexing;
+mod laws;
 mod names;
 
 pub use claims::Claims;
 pub use errors::TableError;
 pub use indexing::{index_of, index_over};
+pub use laws::nodes_are_found_by_path;
 pub use vb_block::Why;
 pub use vb_index::{Index, Limits};
 pub use vb_inode::Node;
 
 /// The nodes of a store, by slot.
 pub type Nodes = vb_list::Items<Node>;
+
+#[cfg(test)]
+mod tests;

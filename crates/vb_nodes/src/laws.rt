@@ -1,0 +1,21 @@
+// Laws of nodes by slot, each the contract of a function that does nothing.
+ghost use Rattle.std.specs.Prelude.{◌≡◌, ◌↔◌, ℕ, List, Some};
+ghost use Rattle.vb_inode.specs.declared.node.Node.{Node};
+ghost use Rattle.vb_index.specs.Nodes.{pages_in, slot_at};
+ghost use Rattle.vb_index.specs.Indexes.{HasShapeOf};
+ghost use Rattle.vb_tree.specs.declared.tree.TreeEntry.{TreeEntry};
+ghost use Rattle.vb_nodes.specs.Paths.{AreBySlot};
+ghost use Rattle.vb_nodes.specs.Faults.{IsNodeTree};
+ghost use Rattle.vb_nodes.specs.Holdings.{held_of, pages_of_nodes};
+ghost use Rattle.vb_nodes.specs.Walking.{HasEntriesOf, HasPath};
+
+/// In the index that the nodes of a tree make, a path leads to the slot whose path it is, and to no other;
+/// it has as many pages as the nodes, and the shape of each tree that has their entries. It does nothing.
+pub fn nodes_are_found_by_path()
+    ensures paths { (nodes : List Node) (path : List (List ℕ)) (slot : ℕ) → IsNodeTree nodes
+        → (slot_at (held_of nodes) path ≡ Some slot) ↔ HasPath nodes slot path }
+    ensures pages { (nodes : List Node) → AreBySlot nodes
+        → pages_in (held_of nodes) ≡ pages_of_nodes nodes }
+    ensures shape { (nodes : List Node) (tree : List TreeEntry) → IsNodeTree nodes
+        → HasEntriesOf nodes tree → HasShapeOf (held_of nodes) tree }
+{}
