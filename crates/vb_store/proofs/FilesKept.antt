@@ -1,11 +1,11 @@
 -- References that are replaced leave each file as many as it has.
-use Rattle.std.proofs.Common.{◌≡◌, ℕ, zero, suc, ◌+◌, ◌≤◌, Bool, true, false, cond, List, [], ◌∷◌, length, get_or, slice_set, unwrap_or, Option, Some, None, refl, ap, subst, sym, ◌∙◌}
+use Rattle.std.proofs.Common.{◌≡◌, ℕ, zero, suc, ◌+◌, ◌≤◌, Bool, true, false, cond, List, [], ◌∷◌, length, get_or, slice_set, unwrap_or, Option, Some, None, refl, subst, sym, ◌∙◌}
 use Rattle.std.proofs.Math.ListN.{length-set}
 use Rattle.std.specs.Option.{option_and_then, option_map}
 use Rattle.vb_block.specs.declared.digest.Ref.{Ref}
 use Rattle.vb_index.specs.declared.held.Held.{Held}
 use Rattle.vb_index.specs.Changes.{with_ref}
-use Rattle.vb_index.specs.Nodes.{held_at, is_file_node, refs_at, refs_of}
+use Rattle.vb_index.specs.Nodes.{held_at, is_file_node, refs_of}
 use Rattle.vb_store.specs.declared.map_page.MapPage.{MapPage}
 use Rattle.vb_store.specs.Maps.{IsOfFile}
 use Rattle.vb_store.specs.Metadata.{with_ref_at, with_refs_at}

@@ -1,13 +1,12 @@
 -- Once the journal is recovered, the homes and map pages give what all blocks gave before.
-use Rattle.std.proofs.Common.{◌≡◌, ℕ, zero, suc, ◌+◌, ◌*◌, ◌<◌, ◌≤◌, List, [], ◌∷◌, ◌++◌, length, map, Option, None, Result, Ok, Err, refl, sym, ap, subst, ◌∙◌, arith, length-append}
-use Rattle.vb_disk.specs.declared.cell.Cell.{Cell}
+use Rattle.std.proofs.Common.{◌≡◌, ℕ, zero, suc, ◌+◌, ◌<◌, ◌≤◌, List, [], ◌∷◌, ◌++◌, length, Option, Result, Ok, Err, refl, sym, ap, ◌∙◌, arith, length-append}
 use Rattle.vb_disk.specs.Cells.{read_of, synced_cell}
 use Rattle.vb_disk.specs.States.{DiskState, read_at}
 use Rattle.vb_head.specs.declared.head.Head.{Head}
 use Rattle.vb_index.specs.Indexes.{IndexState}
 use Rattle.vb_inode.specs.declared.node.Node.{Node}
 use Rattle.vb_journal.specs.declared.recover_error.RecoverError.{RecoverError}
-use Rattle.vb_journal.specs.Recoveries.{choice_of, node_image, settled_head}
+use Rattle.vb_journal.specs.Recoveries.{node_image, settled_head}
 use Rattle.vb_journal.specs.Outcomes.{reads_of}
 use Rattle.vb_nodes.specs.Claiming.{ClaimsState}
 use Rattle.vb_nodes.specs.Holdings.{index_from}

@@ -1,5 +1,5 @@
 -- The map pages of nodes are those of the index that they make, and each is of its file.
-use Rattle.std.proofs.Common.{◌≡◌, ℕ, zero, suc, ◌+◌, ◌-◌, ◌/◌, ◌<◌, ◌≤◌, min, nat_lt, Bool, true, false, cond, List, [], ◌∷◌, ◌++◌, length, get_or, map, replicate, unwrap_or, Option, Some, None, Result, Ok, Err, IfSome, IfNone, refl, sym, ap, subst, ◌∙◌, inl, inr, arith}
+use Rattle.std.proofs.Common.{◌≡◌, ℕ, zero, suc, ◌+◌, ◌-◌, ◌/◌, ◌<◌, ◌≤◌, min, nat_lt, Bool, true, false, cond, List, [], ◌∷◌, ◌++◌, length, get_or, replicate, unwrap_or, Option, Some, None, Result, Ok, Err, IfSome, IfNone, refl, sym, ap, subst, ◌∙◌, inl, inr, arith}
 use Rattle.std.proofs.lemmas.Bool.{cases_lt, eqb-true}
 use Rattle.std.proofs.lemmas.List.{get_or_append_left, get_or-map, get_or_push, length-replicate, length_push, nil_from_length}
 use Rattle.std.specs.List.{All, flat_map}
@@ -11,7 +11,7 @@ use Rattle.vb_index.specs.declared.held.Held.{Held}
 use Rattle.vb_head.specs.declared.head.Head.{Head}
 use Rattle.vb_head.specs.Heads.{IsHead}
 use Rattle.vb_index.specs.Indexes.{IndexState}
-use Rattle.vb_index.specs.Nodes.{is_file_node, refs_at, refs_of}
+use Rattle.vb_index.specs.Nodes.{refs_at, refs_of}
 use Rattle.vb_inode.specs.declared.node.Node.{Node}
 use Rattle.vb_inode.specs.declared.node.NodeKind.{NodeKind}
 use Rattle.vb_inode.specs.declared.node.NodeKind.TheVariants.{Free, Folder, File}
@@ -22,7 +22,7 @@ use Rattle.vb_nodes.specs.declared.errors.TableError.{TableError}
 use Rattle.vb_nodes.specs.declared.errors.TableError.TheVariants.{Wrong as WrongNode, TooManyPages, Memory as NoMemoryForIndex}
 use Rattle.vb_nodes.specs.Faults.{Fault, fault_below, fault_of_slot, table_fault}
 use Rattle.vb_nodes.specs.Holdings.{blank_ref, held_from, held_of, index_from, pages_of_nodes, refuse_fault}
-use Rattle.vb_nodes.specs.Paths.{AreBySlot, free_node, node_at}
+use Rattle.vb_nodes.specs.Paths.{AreBySlot, free_node}
 use Rattle.vb_tree.specs.declared.tree.Limits.{Limits}
 use Rattle.vb_tree.specs.Trees.{AreInLimits, data_pages_of, map_pages_of}
 use Rattle.vb_store.specs.Views.{limits_of}

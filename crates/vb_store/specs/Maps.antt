@@ -1,6 +1,6 @@
 -- Map pages of nodes: which there are, and what is known of each.
-use Rattle.std.specs.Prelude.{◌≡◌, ℕ, ◌+◌, ◌<◌, ◌≤◌, List, [], length, unwrap_or, Option}
-use Rattle.std.specs.List.{All, flat_map}
+use Rattle.std.specs.Prelude.{◌≡◌, ◌+◌, ◌≤◌, List, [], length, unwrap_or, Option}
+use Rattle.std.specs.List.{flat_map}
 use Rattle.vb_index.specs.declared.held.Held.{Held}
 use Rattle.vb_index.specs.Nodes.{refs_at}
 use Rattle.vb_inode.specs.declared.node.Node.{Node}

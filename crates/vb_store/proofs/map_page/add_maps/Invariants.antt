@@ -1,4 +1,4 @@
-use Rattle.std.proofs.Common.{◌≡◌, ◌+◌, ◌-◌, ◌*◌, ◌/◌, ◌≤◌, ◌++◌, All, drop, length}
+use Rattle.std.proofs.Common.{◌≡◌, ◌+◌, ◌-◌, ◌*◌, ◌/◌, ◌++◌, All, drop, length}
 use Rattle.vb_store.specs.Maps.{IsMapPage}
 use Rattle.vb_store.specs.Metadata.{maps_from, maps_of_node}
 use Rattle.vb_store.proofs.map_page.add_maps.Given as goal

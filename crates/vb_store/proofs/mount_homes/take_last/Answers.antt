@@ -1,4 +1,4 @@
-use Rattle.std.proofs.Common.{◌≡◌, ◌+◌, ◌++◌, ◌∷◌, [], List, length, Some, sym, ap, subst, ◌∙◌, arith}
+use Rattle.std.proofs.Common.{◌≡◌, ◌+◌, ◌++◌, ◌∷◌, [], List, length, Some, sym, ap, subst, ◌∙◌}
 use Rattle.vb_inode.specs.declared.node.Node.{Node}
 use Rattle.vb_store.specs.declared.mount_stage.MountStage.TheVariants.{ReadHome}
 use Rattle.std.proofs.lemmas.Result.{IfErr-weaker}

@@ -1,4 +1,4 @@
-use Rattle.std.proofs.Common.{◌≡◌, ℕ, List, sym, ap, ◌∙◌, arith}
+use Rattle.std.proofs.Common.{ℕ, List, sym, ap, ◌∙◌, arith}
 use Rattle.vb_store.specs.Metadata.{block_place}
 use Rattle.vb_store.specs.MountStages.{rest_of}
 use Rattle.vb_store.proofs.MountRests.{rest-named, rest-unnamed}

@@ -1,8 +1,6 @@
-use Rattle.std.proofs.Common.{◌≡◌, ℕ, List, sym, ap, subst, ◌∙◌, arith}
+use Rattle.std.proofs.Common.{sym, ap, subst, ◌∙◌}
 use Rattle.std.specs.List.{All}
 use Rattle.std.proofs.lemmas.List.Elements.{All-weaker}
-use Rattle.vb_index.specs.declared.held.Held.{Held}
-use Rattle.vb_store.specs.declared.map_page.MapPage.{MapPage}
 use Rattle.vb_store.specs.Maps.{IsOfFile}
 use Rattle.vb_store.specs.Metadata.{with_refs_at}
 use Rattle.vb_store.specs.MountStages.{rest_of}

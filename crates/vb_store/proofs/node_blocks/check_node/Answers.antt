@@ -1,4 +1,4 @@
-use Rattle.std.proofs.Common.{◌≡◌, sym, ◌∙◌}
+use Rattle.std.proofs.Common.{sym, ◌∙◌}
 use Rattle.vb_journal.specs.Images.{slot_of}
 use Rattle.vb_store.proofs.SlotsRead.{slot_read}
 use Rattle.vb_store.proofs.node_blocks.check_node.Goals as goal

@@ -1,4 +1,4 @@
-use Rattle.std.proofs.Common.{◌≡◌, List, Option, sym, ap, subst, ◌∙◌, arith}
+use Rattle.std.proofs.Common.{List, Option, sym, ap, subst, ◌∙◌, arith}
 use Rattle.std.specs.List.{All}
 use Rattle.vb_index.specs.declared.held.Held.{Held}
 use Rattle.vb_store.specs.declared.map_page.MapPage.{MapPage}
