@@ -8,6 +8,7 @@ pub mod Found
 pub mod HeadReads
 pub mod Heads
 pub mod ImageWrites
+pub mod Interrupted
 pub mod JournalReads
 pub mod Keeping
 pub mod Marked

@@ -2,6 +2,7 @@ pub mod Calls
 pub mod Commits
 pub mod Data
 pub mod Images
+pub mod Interruptions
 pub mod Journals
 pub mod Marks
 pub mod Outcomes

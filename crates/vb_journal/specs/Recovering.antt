@@ -23,7 +23,7 @@ use Rattle.vb_journal.specs.Images.{image_at, slot_of}
 use Rattle.vb_journal.specs.Outcomes.{IsHurt, reads_of, recovery_on}
 use Rattle.vb_journal.specs.Plans.{opened_head}
 use Rattle.vb_journal.specs.Progress.{IsCommitting, IsUnnamed}
-use Rattle.vb_journal.specs.Recoveries.{Recovered, choice_of, images_refusal, journal_of, journal_place, journal_refusal, node_image, recovery_of, settled_head}
+use Rattle.vb_journal.specs.Recoveries.{choice_of, images_refusal, journal_of, journal_place, journal_refusal, node_image, recovery_of, settled_head}
 use Rattle.vb_journal.specs.Shown.{pages_from}
 
 -- ---- its calls

@@ -5,6 +5,7 @@ mod choice;
 mod commit;
 mod commit_stage;
 mod crashes;
+mod interruptions;
 mod journal;
 mod mending;
 mod recover;
@@ -20,9 +21,14 @@ pub use crashes::{
     a_commit_can_go_on, a_rested_commit_is_at_rest, an_unharmed_disk_recovers_wholly,
     damage_and_data_leave_a_store, each_crash_at_rest_recovers, each_crash_recovers,
 };
+pub use interruptions::{
+    each_crash_of_a_recovery_recovers, interrupted_recoveries_recover_the_same,
+};
 pub use recover::{Ahead, Recover};
 pub use recover_error::RecoverError;
 pub use vb_head::{Head, HeadRead, State, read_head, write_head};
 
+#[cfg(test)]
+mod recovery_tests;
 #[cfg(test)]
 mod tests;
