@@ -2,6 +2,7 @@ pub mod CallsMade
 pub mod Chains
 pub mod ClaimsMade
 pub mod CrashesOfClear
+pub mod CrashesOfMounts
 pub mod EmptyNodes
 pub mod EmptyStores
 pub mod EmptyViews

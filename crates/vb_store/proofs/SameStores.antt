@@ -216,7 +216,7 @@ known_below-same old new head other place there blocks others known size pages m
 -- ---- the whole
 
 -- where a journal has no fault, it has no reason to be refused
-journal_refusal-none : (nodes place : ℕ) (before images : List (List ℕ)) → images_fault nodes place before images ≡ None → images_refusal nodes place before images ≡ None
+pub journal_refusal-none : (nodes place : ℕ) (before images : List (List ℕ)) → images_fault nodes place before images ≡ None → images_refusal nodes place before images ≡ None
 journal_refusal-none nodes place before [] none = refl
 journal_refusal-none nodes place before (image ∷ images) none =
     let both = or_refusal-none (image_fault nodes place before image) (images_fault nodes (place + 1) (before ++ image ∷ []) images) none in
