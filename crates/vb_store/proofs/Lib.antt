@@ -16,5 +16,6 @@ pub mod MountRests
 pub mod PlacesUsed
 pub mod SameJournals
 pub mod SameStores
+pub mod SameTrees
 pub mod SlotsRead
 pub mod Surveyed

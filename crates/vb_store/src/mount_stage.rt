@@ -8,7 +8,7 @@ pub(crate) enum MountStage {
     ReadHome(Homes),
     /// A read of the next map page.
     ReadMap(Claimed),
-    /// The last read again, for there was no memory for the view.
+    /// All blocks were read. For want of memory for what comes next, the last read is made again.
     Finish(Whole),
     /// None: it can't be mounted.
     Refused(Refusal),
