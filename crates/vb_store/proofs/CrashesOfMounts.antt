@@ -1,5 +1,5 @@
 -- What crashes leave of a store while it is mounted: the same metadata.
-use Rattle.std.proofs.Common.{◌≡◌, ℕ, ◌+◌, ◌*◌, ◌≤◌, List, [], ◌∷◌, length, get_or, Option, None, Result, Ok, Err, refl, sym, ap, subst, ◌∙◌, arith}
+use Rattle.std.proofs.Common.{◌≡◌, ℕ, ◌≤◌, List, [], ◌∷◌, length, get_or, None, Result, Ok, Err, refl, sym, ap, subst, ◌∙◌, arith}
 use Rattle.std.specs.List.{All}
 use Rattle.std.proofs.lemmas.List.Elements.{All-cons, All-nil, All-weaker}
 use Rattle.vb_disk.specs.declared.cell.Cell.{Cell}
@@ -7,8 +7,6 @@ use Rattle.vb_disk.specs.Cells.{read_of, synced_cell}
 use Rattle.vb_disk.specs.Crashes.{MayCrashTo}
 use Rattle.vb_disk.specs.States.{DiskState, read_at}
 use Rattle.vb_head.specs.declared.head.Head.{Head}
-use Rattle.vb_index.specs.Indexes.{IndexState}
-use Rattle.vb_inode.specs.declared.node.Node.{Node}
 use Rattle.vb_journal.specs.declared.recover_error.RecoverError.{RecoverError}
 use Rattle.vb_journal.specs.declared.recover_stage.RecoverStage.{RecoverStage}
 use Rattle.vb_journal.specs.declared.recover_stage.RecoverStage.TheVariants.{Ask, Settle, ReadFirst, ReadSecond, Mend, SettleMend, ReadImage, Replay, Ready, Refused}
@@ -16,7 +14,7 @@ use Rattle.vb_journal.specs.Commits.{epoch_of, head_of, images_of}
 use Rattle.vb_journal.specs.Interruptions.{IsSteadyAt}
 use Rattle.vb_journal.specs.Outcomes.{reads_of, recovery_on}
 use Rattle.vb_journal.specs.Plans.{opened_head}
-use Rattle.vb_journal.specs.Recoveries.{Recovered, choice_of, journal_of, journal_place, journal_refusal, node_images, recovered_by, recovered_from, recovery_of, settled_head}
+use Rattle.vb_journal.specs.Recoveries.{Recovered, choice_of, journal_of, journal_place, node_images, recovered_by, recovered_from, recovery_of, settled_head}
 use Rattle.vb_journal.specs.Recovering.{IsRecovering}
 use Rattle.vb_journal.proofs.Interrupted.{steady}
 use Rattle.vb_nodes.specs.Holdings.{index_from}
