@@ -1,14 +1,20 @@
 -- An empty store: what crashes leave of it, what it shows, and that the next commit may start over it.
-use Rattle.std.proofs.Common.{◌≡◌, ℕ, zero, suc, ◌+◌, ◌<◌, List, [], ◌∷◌, length, get_or, Option, None, unwrap_or, inl, inr, refl, sym, ap, subst, ◌∙◌, arith}
-use Rattle.std.proofs.lemmas.Bool.{cases_lt}
+use Rattle.std.proofs.Common.{◌≡◌, ℕ, zero, suc, ◌+◌, ◌<◌, Bool, true, false, not, ◌==◌, nat_lt, cond, List, [], ◌∷◌, length, get_or, Option, Some, None, Ok, Err, unwrap_or, inl, inr, refl, sym, ap, subst, ◌∙◌, arith}
+use Rattle.std.proofs.lemmas.Bool.{cases_lt, eq-eqb, le-ltb}
 use Rattle.vb_disk.specs.declared.cell.Cell.{Cell}
-use Rattle.vb_disk.specs.Cells.{candidate_at, read_of, synced_cell}
+use Rattle.vb_disk.specs.Cells.{candidate_at, candidates, read_of, synced_cell}
 use Rattle.vb_disk.specs.Crashes.{CellMayCrashTo, MayCrashTo}
 use Rattle.vb_disk.specs.States.{DiskState, read_at}
 use Rattle.vb_disk.proofs.StatesOf.{same_state}
-use Rattle.vb_head.specs.Heads.{IsHead, IsInRange, head_page}
+use Rattle.vb_block.specs.declared.why.Why.TheVariants.{Blocks}
+use Rattle.vb_head.specs.declared.head.Head.{Head}
+use Rattle.vb_head.specs.declared.head.HeadRead.{HeadRead}
+use Rattle.vb_head.specs.Heads.{IsHead, IsInRange, head_page, head_read}
 use Rattle.vb_journal.specs.Progress.{IsAtRest}
-use Rattle.vb_journal.specs.Shown.{Shows}
+use Rattle.vb_journal.specs.declared.recover_error.RecoverError.TheVariants.{NotAStore, Unfit}
+use Rattle.vb_journal.specs.Outcomes.{RecoversWholly, reads_of}
+use Rattle.vb_journal.specs.Recoveries.{Recovered, choice_of, greater_place, head_among, least_size, node_image, recovered_by, recovery_of}
+use Rattle.vb_journal.specs.Shown.{good_of, greater, pages_from}
 use Rattle.vb_journal.proofs.Heads.{good_of-head_page, greater-same}
 use Rattle.vb_store.specs.EmptyStores.{HoldsEmptyStore, IsJournalWhole, IsMadeEmpty, empty_home, whole_cell}
 use Rattle.vb_store.specs.Formats.{CanFormat, made_head}
@@ -85,20 +91,38 @@ IsInRange-made_head folder blocks nodes can = record {
 pub IsHead-made_head : (folder : List ℕ) (blocks nodes : ℕ) → CanFormat folder blocks nodes → length folder ≡ 16 → IsHead (made_head folder blocks nodes)
 IsHead-made_head folder blocks nodes can long = record { range = IsInRange-made_head folder blocks nodes can; id_length = long }
 
-pub Shows-empty : (folder : List ℕ) (blocks nodes : ℕ) (d : DiskState) → CanFormat folder blocks nodes → length folder ≡ 16 → HoldsEmptyStore folder blocks nodes d → Shows (read_at d) (made_head folder blocks nodes) 0 empty_home
-Shows-empty folder blocks nodes d can long holds =
+pages_from-same : (f g : ℕ → List ℕ) (place n : ℕ) → ((k : ℕ) → k < n → f (place + k) ≡ g (place + k)) → pages_from f place n ≡ pages_from g place n
+pages_from-same f g place zero same = refl
+pages_from-same f g place (suc n) same =
+    let here : place ≡ place + 0 = omega arith in
+    let first : f place ≡ g place = ap f here ∙ same 0 (omega arith) ∙ ap g (sym here) in
+    ap (λ (p : List ℕ). p ∷ pages_from f (place + 1) n) first
+    ∙ ap (λ (l : List (List ℕ)). g place ∷ l) (pages_from-same f g (place + 1) n (λ k below. let there : place + 1 + k ≡ place + suc k = omega arith in ap f there ∙ same (suc k) (omega arith) ∙ ap g (sym there)))
+
+-- its head counts
+choice-empty : (folder : List ℕ) (blocks nodes : ℕ) (d : DiskState) → CanFormat folder blocks nodes → length folder ≡ 16 → HoldsEmptyStore folder blocks nodes d → choice_of d.size (reads_of d) ≡ Ok (made_head folder blocks nodes)
+choice-empty folder blocks nodes d can long holds =
+    let h : Head = made_head folder blocks nodes in
     let is = IsHead-made_head folder blocks nodes can long in
-    record {
-      found = made_head folder blocks nodes;
-      counts = greater-same (made_head folder blocks nodes) _ _
-          (good_of-head_page (made_head folder blocks nodes) (read_at d 0) is (ap read_of holds.first_head))
-          (good_of-head_page (made_head folder blocks nodes) (read_at d 1) is (ap read_of holds.second_head));
-      id = refl;
-      blocks = refl;
-      nodes = refl;
-      epoch_is = refl;
-      each = λ slot within. ap read_of (holds.homes slot within);
-    }
+    let a : HeadRead = head_read (read_at d 0) in
+    let b : HeadRead = head_read (read_at d 1) in
+    let enough : nat_lt d.size least_size ≡ false = le-ltb d.size least_size (omega (arith, can.space, can.nodes_low, holds.size)) in
+    let both : greater (good_of a) (good_of b) ≡ Some h = greater-same h _ _
+    (good_of-head_page h (read_at d 0) is (ap read_of holds.first_head))
+    (good_of-head_page h (read_at d 1) is (ap read_of holds.second_head)) in
+    let fits : (h.blocks == d.size) ≡ true = eq-eqb h.blocks d.size (sym holds.size) in
+    ap (λ (small : Bool). cond small (Err (NotAStore 0)) (head_among d.size a b (greater (good_of a) (good_of b)))) enough
+    ∙ ap (head_among d.size a b) both
+    ∙ ap (λ (same : Bool). cond (not same) (Err (Unfit (greater_place (good_of a) (good_of b)) Blocks)) (Ok h)) fits
+
+pub RecoversWholly-empty : (folder : List ℕ) (blocks nodes : ℕ) (d : DiskState) → CanFormat folder blocks nodes → length folder ≡ 16 → HoldsEmptyStore folder blocks nodes d → RecoversWholly d (made_head folder blocks nodes) empty_home
+unfolding recovery_of
+RecoversWholly-empty folder blocks nodes d can long holds =
+    let h : Head = made_head folder blocks nodes in
+    ap (recovered_by (reads_of d)) (choice-empty folder blocks nodes d can long holds)
+    ∙ ap (λ (l : List (List ℕ)). let found : Recovered = record { head = h; images = l } in Ok found)
+    (pages_from-same (node_image (reads_of d) h) empty_home 0 nodes (λ k below. let from : 0 + k ≡ k = omega arith in
+    ap (node_image (reads_of d) h) from ∙ ap read_of (holds.homes k below) ∙ ap empty_home (sym from)))
 
 -- ---- the next commit
 
@@ -109,8 +133,9 @@ synced_whole cell whole =
 pub IsAtRest-empty : (folder : List ℕ) (blocks nodes : ℕ) (old new : DiskState) → CanFormat folder blocks nodes → length folder ≡ 16 → IsMadeEmpty folder blocks nodes old new → IsJournalWhole nodes old → IsAtRest (made_head folder blocks nodes) empty_home (λ i. read_at old (2 + nodes + i)) new
 IsAtRest-empty folder blocks nodes old new can long made whole = record {
   id = long;
-  first = made.store.first_head;
-  second = made.store.second_head;
-  each_home = made.store.homes;
-  each_image = λ i within. made.kept (2 + nodes + i) (omega arith) (omega arith) ∙ synced_whole (old.cells (2 + nodes + i)) (whole i within);
+  size = made.store.size;
+  first = ap candidates made.store.first_head;
+  second = ap candidates made.store.second_head;
+  each_home = λ slot within. ap candidates (made.store.homes slot within);
+  each_image = λ i within. ap candidates (made.kept (2 + nodes + i) (omega arith) (omega arith) ∙ synced_whole (old.cells (2 + nodes + i)) (whole i within));
 }

@@ -1,4 +1,14 @@
+pub mod Clear
 pub mod EmptyStores
 pub mod Formats
+pub mod Maps
+pub mod Metadata
+pub mod MountStages
+pub mod Mounting
+pub mod NodesRead
+pub mod Recovered
+pub mod RecoveredStores
 pub mod Runs
+pub mod Sameness
+pub mod Surveys
 pub mod Views

@@ -2,8 +2,8 @@
 ghost use Rattle.std.specs.Prelude.{◌≡◌, ◌+◌, ℕ, List, length};
 ghost use Rattle.vb_disk.specs.Crashes.{MayCrashTo};
 ghost use Rattle.vb_disk.specs.States.{DiskState, after_calls, read_at};
+ghost use Rattle.vb_journal.specs.Outcomes.{RecoversWholly};
 ghost use Rattle.vb_journal.specs.Progress.{IsAtRest};
-ghost use Rattle.vb_journal.specs.Shown.{Shows};
 ghost use Rattle.vb_store.specs.EmptyStores.{empty_home, HoldsEmptyStore, IsJournalWhole, IsMadeEmpty};
 ghost use Rattle.vb_store.specs.Formats.{format_calls, made_head, CanFormat};
 ghost use Rattle.vb_store.specs.Views.{empty_index, CanView};
@@ -22,10 +22,10 @@ pub fn a_format_leaves_an_empty_store()
         → IsAtRest (made_head id blocks nodes) empty_home (λ i. read_at d (2 + nodes + i)) (after_calls d (format_calls id blocks nodes)) }
 {}
 
-/// A disk that holds an empty store shows it, and each crash leaves one that holds it, whatever its other places hold.
+/// A disk that holds an empty store recovers to it, and each crash leaves one that holds it, whatever its other places hold.
 pub fn an_empty_store_is_shown()
-    ensures shown { (id : List ℕ) (blocks nodes : ℕ) (d : DiskState) → CanFormat id blocks nodes → length id ≡ 16
-        → HoldsEmptyStore id blocks nodes d → Shows (read_at d) (made_head id blocks nodes) 0 empty_home }
+    ensures recovers { (id : List ℕ) (blocks nodes : ℕ) (d : DiskState) → CanFormat id blocks nodes → length id ≡ 16
+        → HoldsEmptyStore id blocks nodes d → RecoversWholly d (made_head id blocks nodes) empty_home }
     ensures crash { (id : List ℕ) (blocks nodes : ℕ) (old new : DiskState) → HoldsEmptyStore id blocks nodes old
         → MayCrashTo old new → HoldsEmptyStore id blocks nodes new }
 {}

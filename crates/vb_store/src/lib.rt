@@ -1,18 +1,35 @@
-// Stores: a folder's tree on a disk, how one is made, and the view of its committed state.
+// Stores: a folder's tree on a disk, how one is made and recovered, and the view of its committed state.
 #![tactic(auto)]
 
+mod clear_disks;
 mod empty_stores;
 mod format_error;
 mod formatting;
+mod map_page;
+mod map_reads;
+mod mount_homes;
+mod mount_maps;
+mod mount_parts;
+mod mount_reads;
+mod mount_stage;
 mod new_homes;
+mod node_blocks;
+mod recovered_stores;
+mod same_stores;
+mod surveys;
 mod used_places;
 mod view;
 
+pub use clear_disks::a_crash_leaves_a_clear_disk;
 pub use empty_stores::{
     a_format_leaves_an_empty_store, an_empty_store_can_be_viewed, an_empty_store_is_shown,
 };
 pub use format_error::FormatError;
 pub use formatting::format;
+pub use recovered_stores::{
+    each_crash_of_a_mount_leaves_the_metadata, homes_tell_what_the_blocks_told,
+};
+pub use same_stores::{the_same_pages_recover_the_same_tree, the_same_store_has_the_same_metadata};
 pub use view::{Mounted, View};
 
 #[cfg(test)]

@@ -1,0 +1,5 @@
+use Rattle.vb_store.proofs.MountRests.{rest-added}
+use Rattle.vb_store.proofs.mount_homes.take_node.Goals as goal
+
+pub returns-in-Ok-clause-rest : goal.returns-in-Ok-clause-rest
+returns-in-Ok-clause-rest c = λ reads read. rest-added reads c.args.homes c.add.new.self c.args.node read c.in-Ok.ensures.ok

@@ -1,0 +1,127 @@
+// The steps of a mount that read map pages.
+ghost use Rattle.std.specs.Prelude.{◌≡◌, ◌<◌, ◌≤◌, ℕ, List, false, drop, length, Some, Ok, Err, IfErr};
+ghost use Rattle.vb_disk.specs.Causes.{HasCause};
+ghost use Rattle.vb_disk.specs.States.{DiskState, read_at};
+ghost use Rattle.vb_store.specs.Metadata.{map_checked};
+ghost use Rattle.vb_store.specs.MountStages.{blocks_of, due_place, rest_of, rest_of_maps, HasEnded, IsNoFault, IsSameAnswer, IsStopped, StandsAfter};
+ghost use Rattle.vb_store.specs.NodesRead.{is_retried};
+
+use crate::map_reads::{check_map, claim_all, set_refs};
+use crate::mount_parts::{Claimed, Refusal, Tree, Whole};
+use crate::mount_stage::MountStage;
+use crate::node_blocks::block_place;
+use std::alloc::Global;
+use vb_block::{Page, Why};
+use vb_disk::{Disk, DiskError};
+use vb_inode::Refs;
+use vb_journal::RecoverError;
+
+/// The stage after a step, and what it answers.
+pub(crate) type Stepped = (MountStage, Result<(), RecoverError>);
+
+/// The end, for this reason.
+pub(crate) fn refused(refusal: Refusal) -> Stepped
+    ensures stage { result.0 ≡ MountStage.Refused refusal }
+    ensures error { result.1 ≡ Err refusal.error }
+{
+    let error = refusal.error;
+    (MountStage::Refused(refusal), Err(error))
+}
+
+/// Whether the same call is made again after it.
+fn is_retried(error: &RecoverError) -> bool
+    ensures { result ≡ is_retried error.now }
+{
+    matches!(error, RecoverError::DiskFault | RecoverError::Memory)
+}
+
+/// A stage after an error.
+pub(crate) fn stopped(stage: MountStage, error: RecoverError) -> Stepped
+    ensures stage { IsStopped stage error result.0 }
+    ensures error { result.1 ≡ Err error }
+{
+    if is_retried(&error) {
+        (stage, Err(error))
+    } else {
+        refused(Refusal { error })
+    }
+}
+
+/// Goes on with the next map page of a tree, after a read of this place.
+pub(crate) fn go_on(mut tree: Tree, last: u32) -> Stepped
+    requires { last < tree.head.blocks }
+    ensures rest { (reads : ℕ → List ℕ) → rest_of reads result.0
+        ≡ rest_of_maps reads tree.head tree.slots.items (drop tree.next tree.maps.items)
+        (record { slots = tree.index.nodes; claims = tree.claims }) }
+    ensures blocks { blocks_of result.0 ≤ tree.head.blocks }
+    ensures error { IfErr result.1 (λ error. HasEnded result.0 error × (is_retried error ≡ false)) }
+{
+    if tree.next >= tree.maps.len() {
+        return whole(tree, last);
+    }
+    let map = tree.maps[tree.next];
+    match tree.claims.claim(map.reference.place) {
+        Ok(()) => {
+            tree.next += 1;
+            (MountStage::ReadMap(Claimed { tree, map }), Ok(()))
+        }
+        Err(why) => {
+            let place = block_place(&tree.slots, tree.head.nodes, map.slot);
+            refused(Refusal {
+                error: RecoverError::Unfit { place, why },
+            })
+        }
+    }
+}
+
+/// All of a tree was read, and this place last.
+fn whole(tree: Tree, place: u32) -> Stepped
+    requires { place < tree.head.blocks }
+    ensures rest { (reads : ℕ → List ℕ) → rest_of reads result.0 ≡ Ok (record { head = tree.head; held = tree.index.nodes }) }
+    ensures blocks { blocks_of result.0 ≤ tree.head.blocks }
+    ensures ok { result.1 ≡ Ok tt }
+{
+    let Tree {
+        head,
+        index,
+        slots: _,
+        claims: _,
+        maps: _,
+        next: _,
+    } = tree;
+    (MountStage::Finish(Whole { head, index, place }), Ok(()))
+}
+
+/// Takes in the map page that was read.
+pub(crate) fn take_map(alloc: Global, claimed: Claimed, page: &Page) -> Stepped
+    ensures rest { IsSameAnswer claimed.map.reference.place page.now (MountStage.ReadMap claimed) result.0 }
+    ensures blocks { blocks_of result.0 ≤ claimed.tree.head.blocks }
+    ensures error { IfErr result.1 (StandsAfter (MountStage.ReadMap claimed) result.0) }
+    ensures no_fault { IfErr result.1 IsNoFault }
+{
+    match check_map(alloc, &claimed.map, page) {
+        Ok(refs) => take_refs(claimed, &refs),
+        Err(error) => stopped(MountStage::ReadMap(claimed), error),
+    }
+}
+
+/// Takes in the references of the map page that was read.
+fn take_refs(claimed: Claimed, refs: &Refs) -> Stepped
+    requires { length refs.now ≡ claimed.map.count }
+    ensures rest { (reads : ℕ → List ℕ) → map_checked claimed.map (reads claimed.map.reference.place) ≡ Ok refs.now
+        → rest_of reads result.0 ≡ rest_of reads (MountStage.ReadMap claimed) }
+    ensures blocks { blocks_of result.0 ≤ claimed.tree.head.blocks }
+    ensures error { IfErr result.1 (λ error. HasEnded result.0 error × (is_retried error ≡ false)) }
+{
+    let Claimed { mut tree, map } = claimed;
+    let place = map.reference.place;
+    match claim_all(&mut tree.claims, place, refs.slice()) {
+        Ok(()) => {
+            set_refs(&mut tree.index, map.slot, map.first, refs.slice());
+            go_on(tree, place)
+        }
+        Err(why) => refused(Refusal {
+            error: RecoverError::Unfit { place, why },
+        }),
+    }
+}
