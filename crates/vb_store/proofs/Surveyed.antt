@@ -21,7 +21,8 @@ use Rattle.vb_inode.proofs.Checked.{map_pages-few}
 use Rattle.vb_nodes.specs.declared.errors.TableError.{TableError}
 use Rattle.vb_nodes.specs.declared.errors.TableError.TheVariants.{Wrong as WrongNode, TooManyPages, Memory as NoMemoryForIndex}
 use Rattle.vb_nodes.specs.Faults.{Fault, fault_below, fault_of_slot, table_fault}
-use Rattle.vb_nodes.specs.Holdings.{blank_ref, held_from, held_of, index_from, pages_of_nodes, refuse_fault}
+use Rattle.vb_index.specs.Changes.{blank_ref}
+use Rattle.vb_nodes.specs.Holdings.{held_from, held_of, index_from, pages_of_nodes, refuse_fault}
 use Rattle.vb_nodes.specs.Paths.{AreBySlot, free_node}
 use Rattle.vb_tree.specs.declared.tree.Limits.{Limits}
 use Rattle.vb_tree.specs.Trees.{AreInLimits, data_pages_of, map_pages_of}
