@@ -1,8 +1,8 @@
 -- An empty store: what crashes leave of it, what it shows, and that the next commit may start over it.
-use Rattle.std.proofs.Common.{◌≡◌, ℕ, zero, suc, ◌+◌, ◌<◌, List, [], ◌∷◌, length, get_or, Option, None, unwrap_or, inl, inr, refl, sym, ap, subst, ◌∙◌, arith}
+use Rattle.std.proofs.Common.{◌≡◌, ℕ, zero, suc, ◌+◌, ◌<◌, List, [], ◌∷◌, length, get_or, inl, inr, refl, sym, ap, subst, ◌∙◌, arith}
 use Rattle.std.proofs.lemmas.Bool.{cases_lt}
 use Rattle.vb_disk.specs.declared.cell.Cell.{Cell}
-use Rattle.vb_disk.specs.Cells.{candidate_at, read_of, synced_cell}
+use Rattle.vb_disk.specs.Cells.{candidates, read_of}
 use Rattle.vb_disk.specs.Crashes.{CellMayCrashTo, MayCrashTo}
 use Rattle.vb_disk.specs.States.{DiskState, read_at}
 use Rattle.vb_disk.proofs.StatesOf.{same_state}
@@ -10,7 +10,8 @@ use Rattle.vb_head.specs.Heads.{IsHead, IsInRange, head_page}
 use Rattle.vb_journal.specs.Progress.{IsAtRest}
 use Rattle.vb_journal.specs.Shown.{Shows}
 use Rattle.vb_journal.proofs.Heads.{good_of-head_page, greater-same}
-use Rattle.vb_store.specs.EmptyStores.{HoldsEmptyStore, IsJournalWhole, IsMadeEmpty, empty_home, whole_cell}
+use Rattle.vb_store.specs.Clear.{last_candidates}
+use Rattle.vb_store.specs.EmptyStores.{HoldsEmptyStore, IsMadeEmpty, empty_home, whole_cell}
 use Rattle.vb_store.specs.Formats.{CanFormat, made_head}
 
 -- ---- crashes
@@ -102,15 +103,11 @@ Shows-empty folder blocks nodes d can long holds =
 
 -- ---- the next commit
 
-synced_whole : (cell : Cell) → cell.hurt ≡ None → synced_cell cell ≡ whole_cell (read_of cell)
-synced_whole cell whole =
-    same_cell (synced_cell cell) (whole_cell (read_of cell)) (sym (ap (λ (h : Option (List ℕ)). unwrap_or h (candidate_at cell (length cell.later))) whole)) refl whole
-
-pub IsAtRest-empty : (folder : List ℕ) (blocks nodes : ℕ) (old new : DiskState) → CanFormat folder blocks nodes → length folder ≡ 16 → IsMadeEmpty folder blocks nodes old new → IsJournalWhole nodes old → IsAtRest (made_head folder blocks nodes) empty_home (λ i. read_at old (2 + nodes + i)) new
-IsAtRest-empty folder blocks nodes old new can long made whole = record {
+pub IsAtRest-empty : (folder : List ℕ) (blocks nodes : ℕ) (old new : DiskState) → CanFormat folder blocks nodes → length folder ≡ 16 → IsMadeEmpty folder blocks nodes old new → IsAtRest (made_head folder blocks nodes) empty_home (λ i. last_candidates old (2 + nodes + i)) new
+IsAtRest-empty folder blocks nodes old new can long made = record {
   id = long;
-  first = made.store.first_head;
-  second = made.store.second_head;
-  each_home = made.store.homes;
-  each_image = λ i within. made.kept (2 + nodes + i) (omega arith) (omega arith) ∙ synced_whole (old.cells (2 + nodes + i)) (whole i within);
+  first = ap candidates made.store.first_head;
+  second = ap candidates made.store.second_head;
+  each_home = λ slot within. ap candidates (made.store.homes slot within);
+  each_image = λ i within. ap candidates (made.kept (2 + nodes + i) (omega arith) (let space = can.space in omega arith));
 }

@@ -13,3 +13,4 @@ pub mod EmptyStores
 pub mod Homes
 pub mod MadeEmpty
 pub mod EmptyViews
+pub mod EmptyRecovered
