@@ -4,8 +4,8 @@ use Rattle.std.specs.List.{All}
 use Rattle.std.proofs.lemmas.List.Elements.{All-nil}
 use Rattle.vb_index.specs.declared.held.Held.{Held}
 use Rattle.vb_index.specs.Nodes.{held_at, root_held}
-use Rattle.vb_index.proofs.Beginnings.{fresh-len, fresh-pages}
-use Rattle.vb_tree.specs.Trees.{map_pages_of}
+use Rattle.vb_index.proofs.Beginnings.{fresh-pages}
+use Rattle.vb_tree.specs.Trees.{data_pages_of, map_pages_of}
 use Rattle.vb_store.specs.Formats.{CanFormat, made_head}
 use Rattle.vb_store.specs.Views.{CanView, data_start, empty_index, places_in}
 use Rattle.vb_store.proofs.EmptyStores.{IsInRange-made_head}
@@ -27,6 +27,13 @@ mapped n zero held is =
     subst P same refl
 mapped n (suc slot) held is = let both : None ≡ Some held = sym (none_at n slot) ∙ is in cc
 
+referred : (n slot : ℕ) (held : Held) → held_at (Some root_held ∷ replicate n None) slot ≡ Some held → length held.refs ≡ data_pages_of held.node.length
+referred n zero held is =
+    let same : root_held ≡ held = cc is in
+    let P : Held → Type 0 = λ h. length h.refs ≡ data_pages_of h.node.length in
+    subst P same refl
+referred n (suc slot) held is = let both : None ≡ Some held = sym (none_at n slot) ∙ is in cc
+
 pub CanView-empty : (folder : List ℕ) (blocks nodes : ℕ) → CanFormat folder blocks nodes → CanView (made_head folder blocks nodes) (empty_index (made_head folder blocks nodes))
 CanView-empty folder blocks nodes can =
     let none : places_in (Some root_held ∷ replicate (nodes - 1) None) ≡ [] = no_places (nodes - 1) in
@@ -36,8 +43,8 @@ CanView-empty folder blocks nodes can =
       range = IsInRange-made_head folder blocks nodes can;
       closed = refl;
       limits = refl;
-      slots = omega (arith, fresh-len (nodes - 1));
       pages = omega (arith, fresh-pages (nodes - 1));
+      refs = referred (nodes - 1);
       maps = mapped (nodes - 1);
       above = subst P (sym none) (All-nil (λ place. data_start (made_head folder blocks nodes) ≤ place));
       below = subst Q (sym none) (All-nil (λ place. place < blocks));

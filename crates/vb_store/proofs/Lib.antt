@@ -10,7 +10,7 @@ pub mod SameJournals
 pub mod SameStores
 pub mod SlotsRead
 pub mod EmptyStores
-pub mod Homes
 pub mod MadeEmpty
 pub mod EmptyViews
 pub mod EmptyRecovered
+pub mod PlacesUsed

@@ -8,9 +8,9 @@ use Rattle.vb_head.specs.Heads.{IsInRange}
 use Rattle.vb_index.specs.declared.held.Held.{Held}
 use Rattle.vb_index.specs.Indexes.{IndexState}
 use Rattle.vb_index.specs.Nodes.{held_at, pages_in, refs_of, root_held}
-use Rattle.vb_space.specs.Spaces.{DataPlaces, IsCommitted}
+use Rattle.vb_space.specs.Spaces.{DataPlaces, IsCommitted, committed_count}
 use Rattle.vb_tree.specs.declared.tree.Limits.{Limits}
-use Rattle.vb_tree.specs.Trees.{map_pages_of}
+use Rattle.vb_tree.specs.Trees.{data_pages_of, map_pages_of}
 
 -- what contracts see of a view: its head, the index of the committed nodes, and the data places
 pub record ViewState : Type 0 where
@@ -39,14 +39,14 @@ places_of_slot (Some held) = places_of held.node.maps ++ places_of (unwrap_or (r
 abbrev pub places_in : List (Option Held) → List ℕ
 places_in nodes = flat_map places_of_slot nodes
 
--- an index is that of a store at rest: it keeps the store's limits, each file has its map pages, and the references
--- of map pages and data pages name data places, each of them once
+-- an index is that of a store at rest: it keeps the store's limits, each file has its pages and its map pages, and
+-- their references name data places, each of them once
 pub record CanView (head : Head) (index : IndexState) : Type 0 where
   pub range : IsInRange head
   pub closed : head.state ≡ Closed
   pub limits : index.limits ≡ limits_of head
-  pub slots : length index.nodes ≡ head.nodes
   pub pages : pages_in index.nodes ≤ index.limits.pages
+  pub refs : (slot : ℕ) (held : Held) → held_at index.nodes slot ≡ Some held → length held.refs ≡ data_pages_of held.node.length
   pub maps : (slot : ℕ) (held : Held) → held_at index.nodes slot ≡ Some held → length held.node.maps ≡ map_pages_of held.node.length
   pub above : All (λ place. data_start head ≤ place) (places_in index.nodes)
   pub below : All (λ place. place < head.blocks) (places_in index.nodes)
@@ -57,9 +57,11 @@ abbrev pub empty_index : Head → IndexState
 empty_index head = record { limits = limits_of head; nodes = Some root_held ∷ replicate (head.nodes - 1) None }
 
 -- a view: its index is that of its head, and of its data places the committed view uses exactly those that the
--- index's references name
+-- index's references name, which are at most half of them
 pub record IsView (v : ViewState) : Type 0 where
   pub can : CanView v.head v.index
+  pub slots : length v.index.nodes ≡ v.head.nodes
   pub first : v.space.first ≡ data_start v.head
   pub end : v.space.first + length v.space.users ≡ v.head.blocks
+  pub few : committed_count v.space ≤ v.index.limits.pages
   pub committed : (place : ℕ) → IsCommitted v.space place ↔ Contains (places_in v.index.nodes) place

@@ -1,11 +1,11 @@
 // Makes a disk an empty store.
-ghost use Rattle.std.specs.Prelude.{◌≡◌, ◌+◌, ◌∷◌, [], ◌++◌, ◌<◌, ◌≤◌, List, ℕ, Some, IsSome, IfOk, OnOk};
+ghost use Rattle.std.specs.Prelude.{◌≡◌, ◌∷◌, [], ◌<◌, ◌≤◌, Some, IsSome, IfOk, OnOk};
 ghost use Rattle.vb_disk.specs.Causes.{HasCause};
 ghost use Rattle.vb_disk.specs.States.{DiskState, Write, Sync, read_at};
 ghost use Rattle.vb_head.specs.Heads.{IsInRange, head_page, head_read};
 ghost use Rattle.vb_journal.specs.declared.commit_stage.Turn.TheVariants.{First};
 ghost use Rattle.vb_journal.specs.Calls.{turn_calls};
-ghost use Rattle.vb_store.specs.Formats.{empty_head, format_calls, is_store, store_place, AnswersFormat, CanFormat};
+ghost use Rattle.vb_store.specs.Formats.{format_calls, is_store, store_place, AnswersFormat, CanFormat};
 ghost use Rattle.vb_store.specs.Runs.{MakesAll};
 
 use crate::FormatError;

