@@ -16,7 +16,8 @@ use Rattle.vb_journal.specs.Outcomes.{RecoversWholly, reads_of}
 use Rattle.vb_journal.specs.Recoveries.{Recovered, choice_of, greater_place, head_among, least_size, node_image, recovered_by, recovery_of}
 use Rattle.vb_journal.specs.Shown.{good_of, greater, pages_from}
 use Rattle.vb_journal.proofs.Heads.{good_of-head_page, greater-same}
-use Rattle.vb_store.specs.EmptyStores.{HoldsEmptyStore, IsJournalWhole, IsMadeEmpty, empty_home, whole_cell}
+use Rattle.vb_store.specs.Clear.{last_candidates}
+use Rattle.vb_store.specs.EmptyStores.{HoldsEmptyStore, IsMadeEmpty, empty_home, whole_cell}
 use Rattle.vb_store.specs.Formats.{CanFormat, made_head}
 
 -- ---- crashes
@@ -126,16 +127,12 @@ RecoversWholly-empty folder blocks nodes d can long holds =
 
 -- ---- the next commit
 
-synced_whole : (cell : Cell) → cell.hurt ≡ None → synced_cell cell ≡ whole_cell (read_of cell)
-synced_whole cell whole =
-    same_cell (synced_cell cell) (whole_cell (read_of cell)) (sym (ap (λ (h : Option (List ℕ)). unwrap_or h (candidate_at cell (length cell.later))) whole)) refl whole
-
-pub IsAtRest-empty : (folder : List ℕ) (blocks nodes : ℕ) (old new : DiskState) → CanFormat folder blocks nodes → length folder ≡ 16 → IsMadeEmpty folder blocks nodes old new → IsJournalWhole nodes old → IsAtRest (made_head folder blocks nodes) empty_home (λ i. read_at old (2 + nodes + i)) new
-IsAtRest-empty folder blocks nodes old new can long made whole = record {
+pub IsAtRest-empty : (folder : List ℕ) (blocks nodes : ℕ) (old new : DiskState) → CanFormat folder blocks nodes → length folder ≡ 16 → IsMadeEmpty folder blocks nodes old new → IsAtRest (made_head folder blocks nodes) empty_home (λ i. last_candidates old (2 + nodes + i)) new
+IsAtRest-empty folder blocks nodes old new can long made = record {
   id = long;
   size = made.store.size;
   first = ap candidates made.store.first_head;
   second = ap candidates made.store.second_head;
   each_home = λ slot within. ap candidates (made.store.homes slot within);
-  each_image = λ i within. ap candidates (made.kept (2 + nodes + i) (omega arith) (omega arith) ∙ synced_whole (old.cells (2 + nodes + i)) (whole i within));
+  each_image = λ i within. ap candidates (made.kept (2 + nodes + i) (omega arith) (let space = can.space in omega arith));
 }

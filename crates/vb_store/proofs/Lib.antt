@@ -4,6 +4,7 @@ pub mod ClaimsMade
 pub mod CrashesOfClear
 pub mod CrashesOfMounts
 pub mod EmptyNodes
+pub mod EmptyRecovered
 pub mod EmptyStores
 pub mod EmptyViews
 pub mod Faultless

@@ -28,7 +28,3 @@ pub record IsMadeEmpty (folder : List ℕ) (blocks nodes : ℕ) (old new : DiskS
   pub store : HoldsEmptyStore folder blocks nodes new
   pub kept : (place : ℕ) → 2 + nodes ≤ place → place < blocks → new.cells place ≡ synced_cell (old.cells place)
   pub past : (place : ℕ) → blocks ≤ place → new.cells place ≡ blank_cell
-
--- no place of a disk's journal is hurt
-abbrev pub IsJournalWhole : ℕ → DiskState → Type 0
-IsJournalWhole nodes d = (i : ℕ) → i < nodes → (d.cells (2 + nodes + i)).hurt ≡ None

@@ -23,6 +23,7 @@ mod view;
 pub use clear_disks::a_crash_leaves_a_clear_disk;
 pub use empty_stores::{
     a_format_leaves_an_empty_store, an_empty_store_can_be_viewed, an_empty_store_is_shown,
+    an_empty_store_recovers_the_empty_tree,
 };
 pub use format_error::FormatError;
 pub use formatting::format;
