@@ -46,6 +46,7 @@ journal_calls_by reads head Closed = []
 journal_calls_by reads head (Opened count) = image_reads head.nodes (journal_place head) [] (journal_of reads head) (replay_calls head (journal_of reads head))
 journal_calls_by reads head IsBeingMade = []
 
+-- the calls after both copies of the head are whole
 abbrev pub journal_calls_of : (ℕ → List ℕ) → Head → List RecoverCall
 journal_calls_of reads head = journal_calls_by reads head head.state
 
@@ -59,6 +60,7 @@ abbrev pub calls_after_heads : HeadRead → HeadRead → (ℕ → List ℕ) → 
 calls_after_heads a b reads (Err refusal) = []
 calls_after_heads a b reads (Ok head) = mending_calls a b head (journal_calls_of reads head)
 
+-- the calls after both heads were read, by what reads give
 abbrev pub calls_by_choice : ℕ → (ℕ → List ℕ) → List RecoverCall
 calls_by_choice size reads = calls_after_heads (head_read (reads 0)) (head_read (reads 1)) reads (choice_of size reads)
 

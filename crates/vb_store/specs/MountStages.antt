@@ -95,6 +95,7 @@ abbrev pub Stops : Bool → MountStage → RecoverError → MountStage → Type 
 Stops true before error after = after ≡ before
 Stops false before error after = HasEnded after error
 
+-- so a stage does after this error
 abbrev pub IsStopped : MountStage → RecoverError → MountStage → Type 0
 IsStopped before error after = Stops (is_retried error) before error after
 
