@@ -2,6 +2,8 @@
 use Rattle.std.proofs.Common.{◌≡◌, ℕ, suc, ◌+◌, ◌-◌, ◌*◌, ◌<◌, ◌≤◌, ◌^◌, Bool, true, false, cond, List, [], ◌∷◌, ◌++◌, length, take, drop, replicate, Result, Ok, Err, refl, sym, ap, subst, ◌∙◌, append_assoc, arith}
 use Rattle.std.specs.Str.{bytes_eq}
 use Rattle.std.specs.List.{flat_map}
+use Rattle.std.specs.Option.{option_map}
+use Rattle.std.specs.Result.{result_err}
 use Rattle.std.proofs.lemmas.List.{drop-drop, drop_at, length-append, take_at, take-append-drop}
 use Rattle.std.proofs.lemmas.Slice.Eq.{bytes_eq-Decides}
 use Rattle.byteorder.specs.Endian.{little_number}
@@ -14,7 +16,7 @@ use Rattle.vb_block.specs.declared.why.Why.TheVariants.{Rest}
 use Rattle.vb_inode.specs.declared.node.Node.{Node}
 use Rattle.vb_inode.specs.declared.node.NodeKind.{NodeKind}
 use Rattle.vb_inode.specs.declared.errors.NodeError.{NodeError}
-use Rattle.vb_inode.specs.declared.errors.NodeError.TheVariants.{Unsealed}
+use Rattle.vb_inode.specs.declared.errors.NodeError.TheVariants.{Unsealed, Wrong}
 use Rattle.vb_inode.specs.declared.errors.MapError.TheVariants.{Wrong as WrongMap}
 use Rattle.vb_inode.specs.Layout.{four_bytes, eight_bytes, fields_from, map_page, node_page, ref_bytes, ref_in, refs_in, fields_in, number4_at, number8_at, sealed_bytes, AreRefs, Fields, FitsBlock}
 use Rattle.vb_inode.specs.Checks.{are_zeros, checked}
@@ -135,6 +137,13 @@ sealed_is_read nodes page f result holds answers =
       by_checks (Err why) r e wrong = subst (IsNodeRead (node_read nodes page)) (sym wrong) e
       by_checks (Ok kind) (Ok node) e made = e ∙ ap Ok (node_from-made kind f node made)
       by_checks (Ok kind) (Err fault) e memory = subst (λ (x : NodeError). IsNodeRead (node_read nodes page) (Err x)) (sym memory) tt
+
+-- the first check that a sealed page fails is the one that it reads as
+pub sealed_fault : (nodes : ℕ) (page : List ℕ) (f : Fields) → Holds page f → result_err (node_read nodes page) ≡ option_map Wrong (result_err (checked nodes f))
+sealed_fault nodes page f holds = ap result_err (sealed_read nodes page f holds) ∙ by_checks (checked nodes f) where
+  by_checks : (o : Result NodeKind Why) → result_err (node_by o f) ≡ option_map Wrong (result_err o)
+  by_checks (Ok kind) = refl
+  by_checks (Err why) = refl
 
 -- a page that isn't sealed reads as both seals
 pub unsealed_read : (nodes : ℕ) (page : List ℕ) → (IsSealed page → ⊥) → node_read nodes page ≡ Err (Unsealed (seal_of page) (sha256 (sealed_part page)))

@@ -1,5 +1,7 @@
 // Reads nodes and map pages from their blocks.
 ghost use Rattle.std.specs.Prelude.{◌≡◌, ◌*◌, ◌≤◌, ◌↔◌, List, Result, Ok, Err, false, drop, length, IfOk};
+ghost use Rattle.std.specs.Option.{option_map};
+ghost use Rattle.std.specs.Result.{result_err};
 ghost use Rattle.sha2.specs.Sha256.{sha256};
 ghost use Rattle.vb_block.specs.Pages.{IsSealed, seal_of, sealed_part};
 ghost use Rattle.vb_block.specs.declared.digest.Ref.{Ref};
@@ -54,12 +56,29 @@ fn read_sealed(alloc: Global, page: &Page, nodes: u32) -> Result<Node, NodeError
     requires { IsSealed page.now }
     ensures { (f : Fields) × Holds page.now f × Answers nodes f result }
 {
-    let (sealed, _) = page.bytes().split_at(SEALED);
-    let fields = split_fields(sealed);
+    let fields = held_fields(page);
     match checked(&fields, nodes) {
         Err(why) => Err(NodeError::Wrong(why)),
         Ok(kind) => Ok(node_of(alloc, kind, &fields)?),
     }
+}
+
+/// The first of a node's own checks that a sealed block fails, in a store of so many nodes, in the order of
+/// `decode_node`. It takes no memory.
+pub fn node_fault(page: &Page, nodes: u32) -> Option<Why>
+    requires { IsSealed page.now }
+    ensures { result_err (node_read nodes page.now) ≡ option_map node_errors.Wrong result }
+{
+    checked(&held_fields(page), nodes).err()
+}
+
+/// The fields that stand in a sealed block.
+fn held_fields(page: &Page) -> NodeFields<'_>
+    requires { IsSealed page.now }
+    ensures { Holds page.now (fields_of result) }
+{
+    let (sealed, _) = page.bytes().split_at(SEALED);
+    split_fields(sealed)
 }
 
 /// The node that stands in fields which passed the checks.

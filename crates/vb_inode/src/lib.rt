@@ -13,7 +13,7 @@ mod node;
 mod page_writer;
 mod references;
 
-pub use decode::{decode_map, decode_node};
+pub use decode::{decode_map, decode_node, node_fault};
 pub use encode::{encode_map, encode_node};
 pub use errors::{MapError, NodeError};
 pub use laws::blocks_tell_what_was_written;

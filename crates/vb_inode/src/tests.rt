@@ -107,6 +107,7 @@ fn a_changed_byte_is_refused_by_name(rt: HostRuntime) -> Result<(), Fail> {
         let mut page = file_block(rt.alloc())?;
         set_byte(&mut page, at, byte);
         seal(&mut page);
+        assert_eq!(rt; node_fault(&page, NODES), why);
         assert_eq!(rt; fault_in(rt.alloc(), &page), why.map(NodeError::Wrong));
     }
     Ok(())
