@@ -24,6 +24,7 @@ use Rattle.vb_journal.proofs.Choices.{IsChosen-from, head_choice-chosen}
 use Rattle.vb_journal.proofs.Heads.{CanBe, CanBe-read, good_of-head_page, greater-first, greater-same, greater-second}
 use Rattle.vb_journal.proofs.Mended.{crashed-both, crashed-mending, crashed-whole, mending-again}
 use Rattle.vb_journal.proofs.Overlays.{image_over-named, image_over-unnamed, named_or_not}
+use Rattle.vb_journal.proofs.RecoveredHomes.{recovered-reads, recovered-settled}
 use Rattle.vb_journal.proofs.Replays.{recovered-rested}
 use Rattle.vb_journal.proofs.SameRecoveries.{choice_of-same, nodes_from-same, pages_from-same, recovered_from-same, recovery_of-chosen, recovery_on-same}
 use Rattle.vb_journal.proofs.Settled.{crashed-stands, crashed-synced, read_of-crashed}
@@ -77,7 +78,7 @@ crashed_recovered begun head d new is crash =
     (greater-same head (good_of (head_read (read_at new 0))) (good_of (head_read (read_at new 1)))
     (good_of-head_page head (read_at new 0) is.is (crashed-whole d new 0 (head_page head) is.first crash))
     (good_of-head_page head (read_at new 1) is.is (crashed-whole d new 1 (head_page head) is.second crash)))
-    (λ slot within. read_of-crashed (d.cells (2 + slot)) (new.cells (2 + slot)) (is.settled slot within) (crash.each (2 + slot)) ∙ is.homes slot within)
+    (λ slot within. read_of-crashed (d.cells (2 + slot)) (new.cells (2 + slot)) (recovered-settled begun head d is slot within) (crash.each (2 + slot)) ∙ recovered-reads begun head d is slot within)
 
 -- ---- a replay
 
@@ -208,5 +209,5 @@ EachRecovers-known (ReadImage journal) begun d is new crash = crashed-both begun
 EachRecovers-known (Replay replay) begun d is new crash =
     let commit = replay.commit in
     crashed-replaying begun commit.head commit.epoch commit.images commit.stage d new commit.can.finish.images_are (record { range = commit.can.finish.closed; id_length = is.known.id }) replay.late is crash
-EachRecovers-known (Ready head) begun d is new crash = crashed_recovered begun head d new is crash
+EachRecovers-known (Ready ready) begun d is new crash = crashed_recovered begun ready.head d new is crash
 EachRecovers-known (Refused refusal) begun d is new crash = is.crashes new crash

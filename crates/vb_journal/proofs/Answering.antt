@@ -57,7 +57,7 @@ ahead-of (ReadImage journal) going = refl
 ahead-of (Replay replay) going =
     let c = replay.commit in
     some_first (calls_left replay.commit) _ _ (calls_from-next c.head c.epoch c.images c.stage (late-going c.stage replay.late))
-ahead-of (Ready head) going = refl
+ahead-of (Ready ready) going = refl
 ahead-of (Refused refusal) going = absurd (cc going)
 
 -- ---- the image that is lent
@@ -66,7 +66,7 @@ last_at : (images : List (List ℕ)) (page : List ℕ) → slice_get (images ++ 
 last_at [] page = refl
 last_at (x ∷ xs) page = last_at xs page
 
-last_of-more : (images : List (List ℕ)) (page : List ℕ) → last_of (images ++ page ∷ []) ≡ Some page
+pub last_of-more : (images : List (List ℕ)) (page : List ℕ) → last_of (images ++ page ∷ []) ≡ Some page
 last_of-more images page =
     let at : length (images ++ page ∷ []) - 1 ≡ length images = omega (arith, length-append images (page ∷ [])) in
     ap (slice_get (images ++ page ∷ [])) at ∙ last_at images page
@@ -80,7 +80,7 @@ lends-taken (Mend mending) after told taken = refl
 lends-taken (SettleMend mending) after told taken = refl
 lends-taken (ReadImage journal) after told taken = (taken.0, ap last_of taken.1 ∙ last_of-more journal.images taken.0, taken.2)
 lends-taken (Replay replay) after told taken = refl
-lends-taken (Ready head) after told taken = refl
+lends-taken (Ready ready) after told taken = refl
 lends-taken (Refused refusal) after told taken = refl
 
 -- ---- the answer
@@ -103,5 +103,5 @@ answers-ok begun d (Mend mending) going known = tt
 answers-ok begun d (SettleMend mending) going known = tt
 answers-ok begun d (ReadImage journal) going known = tt
 answers-ok begun d (Replay replay) going known = tt
-answers-ok begun d (Ready head) going known = has_head begun d head known
+answers-ok begun d (Ready ready) going known = has_head begun d ready.head known
 answers-ok begun d (Refused refusal) going known = absurd (cc going)

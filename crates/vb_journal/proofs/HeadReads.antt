@@ -79,11 +79,14 @@ chosen-is size first second head first_good second_good is =
       | inr at ↦ second_good head (good-from_good_of second head at.1)
     ]
 
+pub choice-read : (begun d : DiskState) (first : FirstRead) (second : HeadRead) → HasReadFirst begun first d → second ≡ head_read (read_at begun 1) → choice_of begun.size (reads_of begun) ≡ head_choice first.size.places first.read second
+choice-read begun d first second has second_is =
+    ap (λ (n : ℕ). head_choice n (head_read (read_at begun 0)) (head_read (read_at begun 1))) (sym has.size)
+    ∙ ap (λ (r : HeadRead). head_choice first.size.places r (head_read (read_at begun 1))) (sym has.read)
+    ∙ ap (head_choice first.size.places first.read) (sym second_is)
+
 choice_read : (begun : DiskState) (first : FirstRead) (second : HeadRead) (d : DiskState) → HasReadBoth begun first second d → choice_of begun.size (reads_of begun) ≡ head_choice first.size.places first.read second
-choice_read begun first second d has =
-    ap (λ (n : ℕ). head_choice n (head_read (read_at begun 0)) (head_read (read_at begun 1))) (sym has.first_is.size)
-    ∙ ap (λ (r : HeadRead). head_choice first.size.places r (head_read (read_at begun 1))) (sym has.first_is.read)
-    ∙ ap (head_choice first.size.places first.read) (sym has.second_is)
+choice_read begun first second d has = choice-read begun d first second has.first_is has.second_is
 
 whole_at : (begun d : DiskState) (place : ℕ) (head : Head) → StandsFrom 0 begun d → IsHead head → read_at begun place ≡ head_page head → d.cells place ≡ whole_cell (head_page head)
 whole_at begun d place head stands is read = stands.each place (omega arith) ∙ whole-from_read begun place head stands.is is read

@@ -30,7 +30,7 @@ steady (Mend mending) begun d new is whole crash = not_hurt begun mending.place 
 steady (SettleMend mending) begun d new is whole crash = not_hurt begun mending.place new whole (EachRecovers-known (SettleMend mending) begun d is new crash)
 steady (ReadImage journal) begun d new is going crash = EachRecovers-known (ReadImage journal) begun d is new crash
 steady (Replay replay) begun d new is going crash = EachRecovers-known (Replay replay) begun d is new crash
-steady (Ready head) begun d new is going crash = EachRecovers-known (Ready head) begun d is new crash
+steady (Ready ready) begun d new is going crash = EachRecovers-known (Ready ready) begun d is new crash
 steady (Refused refusal) begun d new is going crash = EachRecovers-known (Refused refusal) begun d is new crash
 
 pub interrupted : (begun : DiskState) (interruptions : List Interruption) → AreInterrupted begun interruptions → recovery_on (left_by begun interruptions) ≡ recovery_on begun

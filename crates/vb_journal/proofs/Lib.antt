@@ -14,8 +14,10 @@ pub mod Keeping
 pub mod ListedCalls
 pub mod Marked
 pub mod Mended
+pub mod NotesKept
 pub mod Overlays
 pub mod PlanSteps
+pub mod RecoveredHomes
 pub mod Replays
 pub mod Resting
 pub mod SameRecoveries

@@ -5,7 +5,7 @@ use Rattle.vb_block.specs.Pages.{IsSealed}
 use Rattle.vb_disk.specs.declared.cell.Cell.{Cell}
 use Rattle.vb_disk.specs.declared.disk_error.DiskError.{DiskError}
 use Rattle.vb_disk.specs.declared.disk_error.DiskError.TheVariants.{Failed, Memory}
-use Rattle.vb_disk.specs.Cells.{candidates, read_of, synced_cell}
+use Rattle.vb_disk.specs.Cells.{candidates, synced_cell}
 use Rattle.vb_disk.specs.States.{DiskCall, DiskState, IsDiskState, Sync, Write, after_call, read_at, synced, written}
 use Rattle.vb_head.specs.declared.head.Head.{Head}
 use Rattle.vb_head.specs.declared.head.State.{State}
@@ -22,14 +22,13 @@ use Rattle.vb_journal.specs.Plans.{CanFinish, answer_at, calls_from, closed_head
 use Rattle.vb_journal.specs.Progress.{Fixed, Has, IsAtRest, IsCommitting, IsUnnamed}
 use Rattle.vb_journal.specs.Recoveries.{journal_of, journal_place, journal_refusal, settled_head}
 use Rattle.vb_journal.specs.Outcomes.{reads_of}
-use Rattle.vb_journal.specs.Recovering.{HasBothHeads, HasWholePlaces, IsHomeWhole, IsRecovered, IsReplaying, homes_of, images_in, newest_of, whole_cell}
+use Rattle.vb_journal.specs.Recovering.{HasBothHeads, HasWholePlaces, IsHomeOf, IsHomeWhole, IsRecovered, IsReplaying, homes_of, images_in, newest_of, whole_cell}
 use Rattle.vb_journal.specs.Replays.{is_late}
-use Rattle.vb_journal.specs.Shown.{image_over}
 use Rattle.vb_journal.proofs.Choices.{IsChosen-from}
 use Rattle.vb_journal.proofs.FirstCalls.{gone}
 use Rattle.vb_journal.proofs.JournalReads.{IsWhole, image_at-pages_from}
 use Rattle.vb_journal.proofs.Keeping.{keeps}
-use Rattle.vb_journal.proofs.Overlays.{image_over-named, image_over-unnamed, named_or_not}
+use Rattle.vb_journal.proofs.Overlays.{image_over-named, named_or_not}
 use Rattle.vb_journal.proofs.PlanSteps.{calls_from-next}
 use Rattle.vb_journal.proofs.StepsOfCommits.{Tries, tries}
 use Rattle.vb_journal.proofs.TriedCells.{written-elsewhere, written-here}
@@ -257,11 +256,20 @@ opened-settles before epoch images =
     let two : before.sequence + 1 + 1 ≡ before.sequence + 2 = omega arith in
     ap (λ (n : ℕ). let h : Head = record before { sequence = n; epoch = epoch; state = Closed } in h) two
 
+-- the home of a slot, once each image is at home
+rested_home : (begun : DiskState) (before : Head) (epoch : ℕ) (images : List (List ℕ)) (d : DiskState) → AreImages before.nodes images → IsReplaying begun before epoch images Rested d → (slot : ℕ) → slot < before.nodes → IsHomeOf begun images slot (d.cells (2 + slot))
+rested_home begun before epoch images d are is slot within = elim (named_or_not images slot) [
+  | inl named ↦ inr (record {
+    image = image_at images named.at;
+    covers = λ home. image_over-named images slot named.at home are.distinct named.within named.is;
+    holds = ap (λ (n : ℕ). d.cells (2 + n)) (sym named.is)
+        ∙ whole_fixed (image_at images named.at) (d.cells (2 + slot_of (image_at images named.at))) (is.known.at_home named.at named.within) (is.whole.homes named.at named.within);
+  })
+  | inr unnamed ↦ inl (record { unnamed = unnamed; stands = is.whole.homes_stand slot within unnamed })
+]
+
 pub recovered-rested : (begun : DiskState) (before : Head) (epoch : ℕ) (images : List (List ℕ)) (d : DiskState) → AreImages before.nodes images → IsHead (closed_head before epoch) → IsReplaying begun before epoch images Rested d → IsRecovered begun (closed_head before epoch) d
 recovered-rested begun before epoch images d are closed_is is =
-    let named_cell : (i : ℕ) → i < length images → d.cells (2 + slot_of (image_at images i)) ≡ whole_cell (image_at images i) = λ i within.
-    whole_fixed (image_at images i) (d.cells (2 + slot_of (image_at images i))) (is.known.at_home i within) (is.whole.homes i within) in
-    let Q : ℕ → Type 0 = λ s. (d.cells (2 + s)).later ≡ [] in
     record {
       chosen = opened_head before epoch images;
       counts = is.counts;
@@ -272,16 +280,7 @@ recovered-rested begun before epoch images d are closed_is is =
       size = is.whole.size;
       first = whole_fixed (head_page (closed_head before epoch)) (d.cells 0) is.known.first is.whole.first;
       second = whole_fixed (head_page (closed_head before epoch)) (d.cells 1) is.known.second is.whole.second;
-      homes = λ slot within.
-          elim (named_or_not images slot) [
-            | inl named ↦ ap (λ (n : ℕ). read_at d (2 + n)) (sym named.is) ∙ ap read_of (named_cell named.at named.within) ∙ sym (image_over-named images slot named.at (read_at begun (2 + slot)) are.distinct named.within named.is)
-            | inr unnamed ↦ ap read_of (is.whole.homes_stand slot within unnamed) ∙ sym (image_over-unnamed images slot (read_at begun (2 + slot)) unnamed)
-          ]
-          ∙ sym (ap (λ (l : List (List ℕ)). image_over l slot (read_at begun (2 + slot))) is.images_are);
-      settled = λ slot within. elim (named_or_not images slot) [
-        | inl named ↦ subst Q named.is (ap (λ (c : Cell). c.later) (named_cell named.at named.within))
-        | inr unnamed ↦ ap (λ (c : Cell). c.later) (is.whole.homes_stand slot within unnamed)
-      ];
+      homes = λ slot within. subst (λ (l : List (List ℕ)). IsHomeOf begun l slot (d.cells (2 + slot))) (sym is.images_are) (rested_home begun before epoch images d are is slot within);
       others_stand = is.whole.others_stand;
     }
 

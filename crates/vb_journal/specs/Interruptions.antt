@@ -1,5 +1,5 @@
 -- Recoveries that crashes interrupt, each of which begins on what the crash before it left.
-use Rattle.std.specs.Prelude.{◌≡◌, ℕ, List, [], ◌∷◌, None}
+use Rattle.std.specs.Prelude.{◌≡◌, ℕ, Bool, true, false, List, [], ◌∷◌, None}
 use Rattle.vb_disk.specs.Crashes.{MayCrashTo}
 use Rattle.vb_disk.specs.States.{DiskState}
 use Rattle.vb_journal.specs.declared.recover_stage.RecoverStage.{RecoverStage}
@@ -9,6 +9,19 @@ use Rattle.vb_journal.specs.Recovering.{IsRecovering}
 -- each place has one candidate, as after each sync and each crash
 abbrev pub AreSettled : DiskState → Type 0
 AreSettled d = (place : ℕ) → (d.cells place).later ≡ []
+
+-- whether the first sync was made
+abbrev pub is_synced : RecoverStage → Bool
+is_synced Ask = false
+is_synced (Settle size) = false
+is_synced (ReadFirst size) = true
+is_synced (ReadSecond first) = true
+is_synced (Mend mending) = true
+is_synced (SettleMend mending) = true
+is_synced (ReadImage journal) = true
+is_synced (Replay replay) = true
+is_synced (Ready ready) = true
+is_synced (Refused refusal) = true
 
 -- a crash at this stage leaves what the recovery began with: up to the first sync where each place had one candidate
 -- then, and while the other head is mended where that one wasn't hurt
@@ -21,7 +34,7 @@ IsSteadyAt (Mend mending) begun = (begun.cells mending.place).hurt ≡ None
 IsSteadyAt (SettleMend mending) begun = (begun.cells mending.place).hurt ≡ None
 IsSteadyAt (ReadImage journal) begun = Unit {0}
 IsSteadyAt (Replay replay) begun = Unit {0}
-IsSteadyAt (Ready head) begun = Unit {0}
+IsSteadyAt (Ready ready) begun = Unit {0}
 IsSteadyAt (Refused refusal) begun = Unit {0}
 
 -- a recovery that was interrupted at a stage and a moment, and what the crash left

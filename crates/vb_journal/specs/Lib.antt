@@ -5,6 +5,7 @@ pub mod Images
 pub mod Interruptions
 pub mod Journals
 pub mod Marks
+pub mod Notes
 pub mod Outcomes
 pub mod Plans
 pub mod Progress

@@ -23,8 +23,8 @@ use Rattle.vb_journal.specs.Images.{image_at, slot_of}
 use Rattle.vb_journal.specs.Outcomes.{IsHurt, reads_of, recovery_on}
 use Rattle.vb_journal.specs.Plans.{opened_head}
 use Rattle.vb_journal.specs.Progress.{IsCommitting, IsUnnamed}
-use Rattle.vb_journal.specs.Recoveries.{choice_of, images_refusal, journal_of, journal_place, journal_refusal, node_image, recovery_of, settled_head}
-use Rattle.vb_journal.specs.Shown.{pages_from}
+use Rattle.vb_journal.specs.Recoveries.{choice_of, images_refusal, journal_of, journal_place, journal_refusal, recovery_of, settled_head}
+use Rattle.vb_journal.specs.Shown.{image_over, pages_from}
 
 -- ---- its calls
 
@@ -50,7 +50,7 @@ due_of (Mend mending) = Some (Change (Write mending.place (head_page mending.hea
 due_of (SettleMend mending) = Some (Change Sync)
 due_of (ReadImage journal) = Some (ReadPlace (journal_place journal.head + length journal.images))
 due_of (Replay replay) = first_change (calls_left replay.commit)
-due_of (Ready head) = None
+due_of (Ready ready) = None
 due_of (Refused refusal) = None
 
 -- a call that changes a disk was made at Ok, and was not for want of memory
@@ -77,8 +77,34 @@ images_by (Mend mending) = []
 images_by (SettleMend mending) = []
 images_by (ReadImage journal) = journal.images
 images_by (Replay replay) = images_of replay.commit
-images_by (Ready head) = []
+images_by (Ready ready) = []
 images_by (Refused refusal) = []
+
+-- how many slots of images may be noted at a stage
+abbrev pub most_slots : RecoverStage → ℕ
+most_slots Ask = 0
+most_slots (Settle size) = 0
+most_slots (ReadFirst size) = 0
+most_slots (ReadSecond first) = 0
+most_slots (Mend mending) = 0
+most_slots (SettleMend mending) = 0
+most_slots (ReadImage journal) = length journal.images
+most_slots (Replay replay) = 65536
+most_slots (Ready ready) = 65536
+most_slots (Refused refusal) = 65536
+
+-- how many nodes the store has whose images are read, or taken home
+abbrev pub nodes_of : RecoverStage → Option ℕ
+nodes_of Ask = None
+nodes_of (Settle size) = None
+nodes_of (ReadFirst size) = None
+nodes_of (ReadSecond first) = None
+nodes_of (Mend mending) = None
+nodes_of (SettleMend mending) = None
+nodes_of (ReadImage journal) = Some journal.head.nodes
+nodes_of (Replay replay) = Some (head_of replay.commit).nodes
+nodes_of (Ready ready) = None
+nodes_of (Refused refusal) = None
 
 -- the seen size stands, unless it was asked
 abbrev pub SeenStays : Option RecoverCall → ℕ → ℕ → Type 0
@@ -99,7 +125,7 @@ TakesImage (ReadImage journal) new told =
     (page : List ℕ) × (images_by new ≡ journal.images ++ page ∷ [])
     × ((d : DiskState) → told ≡ Some d → page ≡ read_at d (journal_place journal.head + length journal.images))
 TakesImage (Replay replay) new told = Unit {0}
-TakesImage (Ready head) new told = Unit {0}
+TakesImage (Ready ready) new told = Unit {0}
 TakesImage (Refused refusal) new told = Unit {0}
 
 -- the size of the disk as far as the recovery relies on it
@@ -112,7 +138,7 @@ blocks_of (Mend mending) = mending.head.blocks
 blocks_of (SettleMend mending) = mending.head.blocks
 blocks_of (ReadImage journal) = journal.head.blocks
 blocks_of (Replay replay) = (head_of replay.commit).blocks
-blocks_of (Ready head) = 0
+blocks_of (Ready ready) = ready.head.blocks
 blocks_of (Refused refusal) = 0
 
 -- the stage is the end, with this refusal
@@ -125,7 +151,7 @@ HasEnded (Mend mending) error = ⊥
 HasEnded (SettleMend mending) error = ⊥
 HasEnded (ReadImage journal) error = ⊥
 HasEnded (Replay replay) error = ⊥
-HasEnded (Ready head) error = ⊥
+HasEnded (Ready ready) error = ⊥
 HasEnded (Refused refusal) error = refusal.error ≡ error
 
 -- whether the stage is the end, with a refusal
@@ -138,7 +164,7 @@ is_refused (Mend mending) = false
 is_refused (SettleMend mending) = false
 is_refused (ReadImage journal) = false
 is_refused (Replay replay) = false
-is_refused (Ready head) = false
+is_refused (Ready ready) = false
 is_refused (Refused refusal) = true
 
 -- after a fault and for want of memory the same call is due, and else the recovery has ended with this error
@@ -239,8 +265,23 @@ pub record IsReplaying (begun : DiskState) (before : Head) (epoch : ℕ) (images
   pub known : IsCommitting before epoch images (homes_of begun) (images_in begun before) stage d
   pub whole : HasWholePlaces begun before images stage d
 
--- the store was recovered: both copies are the head that recovery leaves where this one was chosen, and each home is
--- settled and reads as the image of its node
+-- no image of the journal is for the slot, and its home stands as it did when the recovery began, but for a sync
+pub record StandsAtHome (begun : DiskState) (images : List (List ℕ)) (slot : ℕ) (cell : Cell) : Type 0 where
+  pub unnamed : IsUnnamed images slot
+  pub stands : cell ≡ synced_cell (begun.cells (2 + slot))
+
+-- an image of the journal is for the slot, whatever stood at its home, and the home holds it as its one whole candidate
+pub record WasTakenHome (images : List (List ℕ)) (slot : ℕ) (cell : Cell) : Type 0 where
+  pub image : List ℕ
+  pub covers : (home : List ℕ) → image_over images slot home ≡ image
+  pub holds : cell ≡ whole_cell image
+
+-- where the home of a slot comes from, once these images of the journal were taken home
+abbrev pub IsHomeOf : DiskState → List (List ℕ) → ℕ → Cell → Type 0
+IsHomeOf begun images slot cell = StandsAtHome begun images slot cell ⊎ WasTakenHome images slot cell
+
+-- the store was recovered: both copies are the head that recovery leaves where this one was chosen, and each home
+-- stands or holds the journal's image for it
 pub record IsRecovered (begun : DiskState) (head : Head) (d : DiskState) : Type 0 where
   pub chosen : Head
   pub counts : choice_of begun.size (reads_of begun) ≡ Ok chosen
@@ -251,8 +292,7 @@ pub record IsRecovered (begun : DiskState) (head : Head) (d : DiskState) : Type 
   pub size : d.size ≡ begun.size
   pub first : d.cells 0 ≡ whole_cell (head_page head)
   pub second : d.cells 1 ≡ whole_cell (head_page head)
-  pub homes : (slot : ℕ) → slot < head.nodes → read_at d (2 + slot) ≡ node_image (reads_of begun) chosen slot
-  pub settled : (slot : ℕ) → slot < head.nodes → (d.cells (2 + slot)).later ≡ []
+  pub homes : (slot : ℕ) → slot < head.nodes → IsHomeOf begun (journal_of (reads_of begun) chosen) slot (d.cells (2 + slot))
   pub others_stand : (place : ℕ) → journal_place head ≤ place → d.cells place ≡ synced_cell (begun.cells place)
 
 -- a crash of the disk leaves one that recovers to the same
@@ -274,7 +314,7 @@ IsRecovering (Mend mending) begun d = IsMending begun mending.head mending.place
 IsRecovering (SettleMend mending) begun d = IsMending begun mending.head mending.place IsMended d
 IsRecovering (ReadImage journal) begun d = HasRead begun journal d
 IsRecovering (Replay replay) begun d = IsReplaying begun (head_of replay.commit) (epoch_of replay.commit) (images_of replay.commit) (stage_of replay.commit) d
-IsRecovering (Ready head) begun d = IsRecovered begun head d
+IsRecovering (Ready ready) begun d = IsRecovered begun ready.head d
 IsRecovering (Refused refusal) begun d = IsHopeless begun refusal.error d
 
 -- ---- what crashes leave
@@ -299,19 +339,20 @@ MayRecover (Mend mending) begun new = (recovery_on new ≡ recovery_on begun) �
 MayRecover (SettleMend mending) begun new = (recovery_on new ≡ recovery_on begun) ⊎ RecoversWhole begun mending.place new
 MayRecover (ReadImage journal) begun new = recovery_on new ≡ recovery_on begun
 MayRecover (Replay replay) begun new = recovery_on new ≡ recovery_on begun
-MayRecover (Ready head) begun new = recovery_on new ≡ recovery_on begun
+MayRecover (Ready ready) begun new = recovery_on new ≡ recovery_on begun
 MayRecover (Refused refusal) begun new = recovery_on new ≡ recovery_on begun
 
 -- after each crash of the disk
 abbrev pub EachRecovers : RecoverStage → DiskState → DiskState → Type 0
 EachRecovers stage begun d = (new : DiskState) → MayCrashTo d new → MayRecover stage begun new
 
--- what a step leaves of a disk that is known at its stage: one that is known at the stage after it, and each crash
--- within the step leaves what the stage before it says
+-- what a step leaves of a disk that is known at its stage: one that is known at the stage after it. Each moment within
+-- it is known at the one stage or the other, and each crash at it leaves what the stage before it says.
 pub record RecoversTo (begun : DiskState) (before after : RecoverStage) (d : DiskState) (new : Option DiskState) : Type 0 where
   pub next : DiskState
   pub told : new ≡ Some next
   pub known : IsRecovering after begun next
+  pub moments : EachMoment (λ m. IsRecovering before begun m ⊎ IsRecovering after begun m) d next
   pub crashes : EachMoment (EachRecovers before begun) d next
 
 -- so does each step of a disk that is known at its stage

@@ -27,7 +27,7 @@ ready_head (Mend mending) = None
 ready_head (SettleMend mending) = None
 ready_head (ReadImage journal) = None
 ready_head (Replay replay) = None
-ready_head (Ready head) = Some head
+ready_head (Ready ready) = Some ready.head
 ready_head (Refused refusal) = None
 
 -- the last of some images
@@ -50,7 +50,7 @@ Lends (ReadImage journal) lent told =
     (page : List ℕ) × (lent ≡ Some page)
     × ((d : DiskState) → told ≡ Some d → page ≡ read_at d (journal_place journal.head + length journal.images))
 Lends (Replay replay) lent told = lent ≡ None
-Lends (Ready head) lent told = lent ≡ None
+Lends (Ready ready) lent told = lent ≡ None
 Lends (Refused refusal) lent told = lent ≡ None
 
 -- whether an image of the journal is to be read
@@ -63,7 +63,7 @@ is_reading (Mend mending) = false
 is_reading (SettleMend mending) = false
 is_reading (ReadImage journal) = true
 is_reading (Replay replay) = false
-is_reading (Ready head) = false
+is_reading (Ready ready) = false
 is_reading (Refused refusal) = false
 
 -- whether calls are left
@@ -76,7 +76,7 @@ ahead_at (Mend mending) = More
 ahead_at (SettleMend mending) = More
 ahead_at (ReadImage journal) = More
 ahead_at (Replay replay) = More
-ahead_at (Ready head) = AllDone
+ahead_at (Ready ready) = AllDone
 ahead_at (Refused refusal) = AllDone
 
 -- More comes where a call is due, and Ready where none is and the store has a head

@@ -81,7 +81,7 @@ recovery_calls_left (ReadImage journal) begun =
     (pages_from (reads_of begun) (journal_place journal.head + length journal.images) (journal.count - length journal.images))
     (replay_calls journal.head (journal_of (reads_of begun) journal.head))
 recovery_calls_left (Replay replay) begun = changes (calls_left replay.commit)
-recovery_calls_left (Ready head) begun = []
+recovery_calls_left (Ready ready) begun = []
 recovery_calls_left (Refused refusal) begun = []
 
 -- this call was the first, and the others are left

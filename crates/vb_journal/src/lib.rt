@@ -8,10 +8,12 @@ mod crashes;
 mod interruptions;
 mod journal;
 mod mending;
+mod noting;
 mod recover;
 mod recover_error;
 mod recover_stage;
 mod recovering;
+mod recovery;
 mod refusal;
 mod replay;
 
@@ -26,6 +28,7 @@ pub use interruptions::{
 };
 pub use recover::{Ahead, Recover};
 pub use recover_error::RecoverError;
+pub use recovery::Recovery;
 pub use vb_head::{Head, HeadRead, State, read_head, write_head};
 
 #[cfg(test)]

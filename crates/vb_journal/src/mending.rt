@@ -1,8 +1,9 @@
-// What a recovery knows before it reads the journal.
+// What a recovery knows of the heads of a store.
 ghost use Rattle.std.specs.Prelude.{◌≡◌, ◌≢◌, ◌≤◌, ℕ, List, false};
 ghost use Rattle.vb_head.specs.Heads.{IsHead};
 ghost use Rattle.vb_head.specs.declared.head.Head.{Head};
 ghost use Rattle.vb_head.specs.declared.head.HeadRead.TheVariants.{Good, Unsealed};
+ghost use Rattle.vb_head.specs.declared.head.State.TheVariants.{Closed};
 ghost use Rattle.vb_journal.specs.Recoveries.{is_rebuilding, least_size};
 
 use crate::{Head, HeadRead};
@@ -31,4 +32,12 @@ pub(crate) struct Mending {
     ghost is: { IsHead head },
     ghost whole: { is_rebuilding head.state ≡ false },
     ghost other: { place ≤ 1 },
+}
+
+/// The head of a store at rest.
+#[derive(Clone, Copy)]
+pub(crate) struct ClosedHead {
+    pub(crate) head: Head,
+    ghost is: { IsHead head },
+    ghost closed: { head.state ≡ Closed },
 }

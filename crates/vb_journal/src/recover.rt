@@ -1,12 +1,16 @@
 // A recovery: which head of a store counts, and what its journal holds, one call of the disk at a time.
-ghost use Rattle.std.specs.Prelude.{◌≡◌, ◌≢◌, ◌≤◌, ℕ, List, Some, None, IfOk, IfErr, OnOk, OnErr, IsSome};
+ghost use Rattle.std.specs.Prelude.{true, ◌≡◌, ◌≢◌, ◌≤◌, ◌+◌, ℕ, List, length, Some, None, IfOk, IfErr, IfSome, OnOk, OnErr, IsSome, vec_len};
 ghost use Rattle.std.specs.Option.{option_copied};
+ghost use Rattle.vb_block.specs.Pages.{IsSealed};
 ghost use Rattle.vb_disk.specs.Causes.{HasCause};
 ghost use Rattle.vb_disk.specs.States.{DiskState};
+ghost use Rattle.vb_head.specs.Heads.{IsHead};
+ghost use Rattle.vb_journal.specs.Recovering.{most_slots};
 
+use crate::noting::{make_room, note_slot};
 use crate::recover_stage::RecoverStage;
 use crate::recovering::step_from;
-use crate::{Head, Images, RecoverError};
+use crate::{Head, Images, RecoverError, Recovery, State};
 use std::alloc::Global;
 use std::mem;
 use vb_block::Page;
@@ -26,25 +30,36 @@ pub struct Recover {
     stage: RecoverStage,
     /// Whether the last step read an image of the journal.
     lends: bool,
+    /// The place of the head that counts, once it is known.
+    place: u32,
+    /// The slots of the images of the journal that were read.
+    slots: Vec<u32>,
+    ghost few: { vec_len slots ≤ most_slots stage },
 }
 
 impl Recover {
-    ghost use Rattle.vb_journal.specs.Recovering.{blocks_of, due_of, IsRecovering, HasEnded, MakesCall, RecoversOn, SeenStays, StandsAfter};
+    ghost use Rattle.vb_journal.specs.Recovering.{AskSize, blocks_of, due_of, images_by, nodes_of, IsRecovering, HasEnded, MakesCall, RecoversOn, SeenStays, StandsAfter, TakesImage};
+    ghost use Rattle.vb_journal.specs.Interruptions.{is_synced};
+    ghost use Rattle.vb_journal.specs.Notes.{slots_noted, slots_with, HasNoted, IsNoted};
     ghost use Rattle.vb_journal.specs.Outcomes.{reads_of};
     ghost use Rattle.vb_journal.specs.RecoveryCalls.{recovery_calls, recovery_calls_left, Leaves};
     ghost use Rattle.vb_journal.specs.Recovers.{lent_image, ready_head, recovery_stage, AnswersRecovery, IsAheadOf, Lends};
 
     /// A recovery that begins.
     pub fn start(alloc: Global) -> Recover
+        ensures due { due_of (recovery_stage result) ≡ Some AskSize }
         ensures blocks { blocks_of (recovery_stage result) ≡ 0 }
         ensures image { lent_image result ≡ None }
         ensures known { (begun : DiskState) → IsRecovering (recovery_stage result) begun begun }
         ensures calls { (begun : DiskState) → recovery_calls_left (recovery_stage result) begun ≡ recovery_calls begun.size (reads_of begun) }
+        ensures noted { (begun : DiskState) → HasNoted result begun }
     {
         Recover {
             alloc,
             stage: RecoverStage::Ask,
             lends: false,
+            place: 0,
+            slots: Vec::new(alloc),
         }
     }
 
@@ -62,6 +77,7 @@ impl Recover {
         ensures blocks { blocks_of (recovery_stage self.new) ≤ D.seen disk.new }
         ensures image { OnOk result (Lends (recovery_stage self.old) (lent_image self.new) (D.told disk.old)) }
         ensures no_image { OnErr result (lent_image self.new ≡ None) }
+        ensures images { OnOk result (TakesImage (recovery_stage self.old) (recovery_stage self.new) (D.told disk.old)) }
 
         // Ready comes with what reads gave when the recovery began, and a refusal where they gave that one.
         ensures answer { (begun d : DiskState) → D.told disk.old ≡ Some d → IsRecovering (recovery_stage self.old) begun d
@@ -71,17 +87,31 @@ impl Recover {
         ensures list { (begun d : DiskState) → D.told disk.old ≡ Some d → IsRecovering (recovery_stage self.old) begun d
             → Leaves (due_of (recovery_stage self.old)) (recovery_calls_left (recovery_stage self.old) begun) (recovery_calls_left (recovery_stage self.new) begun) result }
 
+        // What is to be noted is noted, by what reads gave when the recovery began.
+        ensures noted { (begun d : DiskState) → D.told disk.old ≡ Some d → IsRecovering (recovery_stage self.old) begun d
+            → HasNoted self.old begun → HasNoted self.new begun }
+        ensures slots { slots_noted self.new ≡ slots_with (slots_noted self.old) (lent_image self.new) }
+
+        // Once the first sync was made, it stays made.
+        ensures order { is_synced (recovery_stage self.old) ≡ true → is_synced (recovery_stage self.new) ≡ true }
+
         // From the first sync on each crash within the step leaves what recovers to the same.
         ensures crash { RecoversOn (recovery_stage self.old) (recovery_stage self.new) (D.told disk.old) (D.told disk.new) }
     {
+        let reads_image = self.stage.reads_image();
+        if make_room(&mut self.slots, reads_image).is_err() {
+            self.lends = false;
+            return Err(RecoverError::Memory);
+        }
         let stage = mem::replace(&mut self.stage, RecoverStage::Ask);
-        let reads_image = stage.reads_image();
+        self.place = stage.place_after(self.place);
         let (stage, result) = step_from(stage, self.alloc, disk);
         let ahead = stage.ahead();
         self.stage = stage;
         match result {
             Ok(()) => {
                 self.lends = reads_image;
+                note_slot(&mut self.slots, reads_image, &self.stage);
                 Ok(ahead)
             }
             Err(error) => {
@@ -94,21 +124,67 @@ impl Recover {
     /// The head of the store.
     pub fn head(&self) -> Head
         requires { IsSome (ready_head (recovery_stage self.now)) }
-        ensures { ready_head (recovery_stage self.now) ≡ Some result }
+        ensures head { ready_head (recovery_stage self.now) ≡ Some result }
+        ensures is { IsHead result }
+        ensures closed { result.state ≡ State.Closed }
+        ensures blocks { result.blocks ≡ blocks_of (recovery_stage self.now) }
     {
         match self.stage {
-            RecoverStage::Ready(head) => head,
+            RecoverStage::Ready(ready) => ready.head,
             _ => unreachable!(),
         }
     }
 
+    /// The end of it: what was found.
+    pub fn finish(self) -> Recovery
+        requires { IsSome (ready_head (recovery_stage self)) }
+        ensures head { ready_head (recovery_stage self) ≡ Some result.head }
+        ensures is { IsHead result.head }
+        ensures closed { result.head.state ≡ State.Closed }
+        ensures blocks { result.head.blocks ≡ blocks_of (recovery_stage self) }
+        ensures few { vec_len result.slots ≤ 65536 }
+        ensures noted { (begun : DiskState) → HasNoted self begun → IsNoted begun result.place result.slots.items }
+    {
+        let head = self.head();
+        let Recover { place, slots, .. } = self;
+        Recovery { head, place, slots }
+    }
+
     /// The image of the journal that the last step read, and none after any other step.
     pub fn image(&self) -> Option<&Page>
-        ensures { option_copied result ≡ lent_image self.now }
+        ensures image { option_copied result ≡ lent_image self.now }
+        ensures sealed { IfSome result (λ page. IsSealed page.now) }
     {
         if !self.lends {
             return None;
         }
         self.stage.last_image()
+    }
+
+    /// How many nodes the store has whose image is lent.
+    pub fn nodes(&self) -> u32
+        requires { IsSome (lent_image self.now) }
+        ensures nodes { nodes_of (recovery_stage self.now) ≡ Some result }
+        ensures few { result ≤ 65536 }
+    {
+        match &self.stage {
+            RecoverStage::ReadImage(journal) => journal.head.nodes,
+            RecoverStage::Replay(replay) => replay.head.nodes,
+            _ => unreachable!(),
+        }
+    }
+
+    /// The place where the lent image stands.
+    pub fn image_place(&self) -> u32
+        requires { IsSome (lent_image self.now) }
+        ensures { (n : ℕ) → nodes_of (recovery_stage self.now) ≡ Some n
+            → result + 1 ≡ 2 + n + length (images_by (recovery_stage self.now)) }
+    {
+        let read = match &self.stage {
+            RecoverStage::ReadImage(journal) => journal.images.len(),
+            RecoverStage::Replay(replay) => replay.commit.images().len(),
+            _ => unreachable!(),
+        };
+        1 + self.nodes() + read as u32
     }
 }

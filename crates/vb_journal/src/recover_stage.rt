@@ -1,14 +1,17 @@
 // How far a recovery has come.
-ghost use Rattle.std.specs.Prelude.{◌≡◌, Some};
+ghost use Rattle.std.specs.Prelude.{◌≡◌, ◌<◌, ℕ, length, Some, IfSome};
 ghost use Rattle.std.specs.Option.{option_copied};
+ghost use Rattle.vb_block.specs.Pages.{IsSealed};
+ghost use Rattle.vb_journal.specs.Images.{image_at};
+ghost use Rattle.vb_journal.specs.Notes.{place_after};
 ghost use Rattle.vb_journal.specs.Recovers.{ahead_at, is_reading, last_of};
 ghost use Rattle.vb_journal.specs.Recovering.{images_by};
 
 use crate::journal::Journal;
-use crate::mending::{FirstRead, Mending, StoreSize};
+use crate::mending::{ClosedHead, FirstRead, Mending, StoreSize};
 use crate::refusal::Refusal;
 use crate::replay::Replay;
-use crate::{Ahead, Head, Images};
+use crate::{Ahead, Images};
 use vb_block::Page;
 
 /// Which call of a recovery is due.
@@ -31,7 +34,7 @@ pub(crate) enum RecoverStage {
     /// The next call of the commit that the journal belongs to, from its homes on.
     Replay(Replay),
     /// None: the store has this head.
-    Ready(Head),
+    Ready(ClosedHead),
     /// None: it can't be recovered.
     Refused(Refusal),
 }
@@ -54,9 +57,20 @@ impl RecoverStage {
         matches!(self, RecoverStage::ReadImage(_))
     }
 
+    /// The place of the head that counts, once a step was made from here. Before it this one was noted.
+    pub(crate) fn place_after(&self, place: u32) -> u32
+        ensures { result ≡ place_after self.now place }
+    {
+        match self {
+            RecoverStage::Mend(mending) => 1 - mending.place,
+            _ => place,
+        }
+    }
+
     /// The image of the journal that was read last.
     pub(crate) fn last_image(&self) -> Option<&Page>
-        ensures { option_copied result ≡ last_of (images_by self.now) }
+        ensures image { option_copied result ≡ last_of (images_by self.now) }
+        ensures sealed { IfSome result (λ page. IsSealed page.now) }
     {
         match self {
             RecoverStage::ReadImage(journal) => last_image(&journal.images),
@@ -68,7 +82,9 @@ impl RecoverStage {
 
 // The last of some images.
 fn last_image(images: &Images) -> Option<&Page>
-    ensures { option_copied result ≡ last_of images.now }
+    requires { (i : ℕ) → i < length images.now → IsSealed (image_at images.now i) }
+    ensures image { option_copied result ≡ last_of images.now }
+    ensures sealed { IfSome result (λ page. IsSealed page.now) }
 {
     images.slice().last()
 }

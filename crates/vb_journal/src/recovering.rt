@@ -1,22 +1,24 @@
 // The steps of a recovery, one function for each call of the disk.
-ghost use Rattle.std.specs.Prelude.{◌≡◌, ◌≢◌, ◌+◌, ◌<◌, ◌≤◌, ◌++◌, ◌∷◌, [], ℕ, List, Some, None, Ok, true, false, length, IfErr, IfOk, OnOk};
+ghost use Rattle.std.specs.Prelude.{◌≡◌, ◌≢◌, ◌+◌, ◌<◌, ◌≤◌, ◌++◌, ◌∷◌, [], ℕ, List, Some, None, Ok, true, false, length, map, IfErr, IfOk, OnOk};
 ghost use Rattle.vb_disk.specs.Causes.{HasCause};
 ghost use Rattle.vb_disk.specs.States.{DiskState, Write, read_at};
 ghost use Rattle.vb_head.specs.Heads.{head_page, head_read, IsHead};
 ghost use Rattle.vb_head.specs.declared.head.Head.{Head};
 ghost use Rattle.vb_journal.specs.Calls.{Makes};
+ghost use Rattle.vb_journal.specs.Interruptions.{is_synced};
 ghost use Rattle.vb_journal.specs.Commits.{calls_left, epoch_of, head_of, images_of, stage_of};
-ghost use Rattle.vb_journal.specs.Images.{AreImages};
-ghost use Rattle.vb_journal.specs.Plans.{closed_head};
-ghost use Rattle.vb_journal.specs.Recoveries.{image_refusal, is_rebuilding, is_retried, journal_of, journal_place, journal_refusal};
+ghost use Rattle.vb_journal.specs.Images.{slot_of, AreImages};
+ghost use Rattle.vb_journal.specs.Notes.{head_place, HasNotedAt, KeepsNotes};
+ghost use Rattle.vb_journal.specs.Plans.{closed_head, opened_head};
+ghost use Rattle.vb_journal.specs.Recoveries.{choice_of, image_refusal, is_rebuilding, is_retried, journal_of, journal_place, journal_refusal};
 ghost use Rattle.vb_journal.specs.Outcomes.{reads_of};
-ghost use Rattle.vb_journal.specs.Recovering.{blocks_of, due_of, images_by, is_refused, HasBothHeads, HasRead, HasReadFirst, IsRecovering, IsReplaying, MakesCall, RecoversOn, SeenStays, StandsAfter, TakesImage, HasEnded};
+ghost use Rattle.vb_journal.specs.Recovering.{blocks_of, due_of, images_by, is_refused, most_slots, HasBothHeads, HasRead, HasReadFirst, IsRecovering, IsReplaying, MakesCall, RecoversOn, SeenStays, StandsAfter, TakesImage, HasEnded};
 ghost use Rattle.vb_journal.specs.RecoveryCalls.{calls_by_choice, changes, journal_calls_of, recovery_calls_left, replay_calls, Leaves};
 ghost use Rattle.vb_journal.specs.Replays.{is_late};
 
 use crate::choice::{LEAST_SIZE, are_one_head, choose_head, other_place};
 use crate::journal::{Grown, Journal};
-use crate::mending::{FirstRead, Mending, StoreSize};
+use crate::mending::{ClosedHead, FirstRead, Mending, StoreSize};
 use crate::recover_stage::RecoverStage;
 use crate::refusal::Refusal;
 use crate::replay::Replay;
@@ -43,7 +45,10 @@ pub(crate) fn step_from<D: Disk>(stage: RecoverStage, alloc: Global, disk: &mut 
     ensures refused { (error : RecoverError) → HasEnded stage error → result.1 ≡ Err error }
     ensures blocks { blocks_of result.0 ≤ D.seen disk.new }
     ensures going { OnOk result.1 (is_refused result.0 ≡ false) }
+    ensures notes { (begun d : DiskState) → D.told disk.old ≡ Some d → IsRecovering stage begun d → KeepsNotes stage result.0 result.1 begun }
+    ensures few { most_slots stage ≤ most_slots result.0 }
     ensures cause { HasCause RecoverError.DiskFault (D.faults disk.old) (D.faults disk.new) result.1 }
+    ensures order { is_synced stage ≡ true → is_synced result.0 ≡ true }
 {
     match stage {
         RecoverStage::Ask => ask(disk),
@@ -54,7 +59,7 @@ pub(crate) fn step_from<D: Disk>(stage: RecoverStage, alloc: Global, disk: &mut 
         RecoverStage::SettleMend(mending) => settle_mend(alloc, disk, mending),
         RecoverStage::ReadImage(journal) => read_image(alloc, disk, journal),
         RecoverStage::Replay(replay) => go_on(disk, replay),
-        RecoverStage::Ready(head) => (RecoverStage::Ready(head), Ok(())),
+        RecoverStage::Ready(ready) => (RecoverStage::Ready(ready), Ok(())),
         RecoverStage::Refused(refusal) => refused(refusal),
     }
 }
@@ -77,6 +82,7 @@ fn ask<D: Disk>(disk: &mut D) -> Stepped
         → Leaves (due_of RecoverStage.Ask) (recovery_calls_left RecoverStage.Ask begun) (recovery_calls_left result.0 begun) result.1 }
     ensures blocks { blocks_of result.0 ≤ D.seen disk.new }
     ensures going { OnOk result.1 (is_refused result.0 ≡ false) }
+    ensures notes { (begun : DiskState) → KeepsNotes RecoverStage.Ask result.0 result.1 begun }
     ensures cause { HasCause RecoverError.DiskFault (D.faults disk.old) (D.faults disk.new) result.1 }
 {
     match disk.size() {
@@ -99,6 +105,7 @@ fn settle<D: Disk>(disk: &mut D, size: StoreSize) -> Stepped
     ensures seen { D.seen disk.new ≡ D.seen disk.old }
     ensures blocks { blocks_of result.0 ≤ D.seen disk.new }
     ensures going { OnOk result.1 (is_refused result.0 ≡ false) }
+    ensures notes { (begun : DiskState) → KeepsNotes (RecoverStage.Settle size) result.0 result.1 begun }
     ensures cause { HasCause RecoverError.DiskFault (D.faults disk.old) (D.faults disk.new) result.1 }
 {
     match disk.sync() {
@@ -131,7 +138,9 @@ fn read_first<D: Disk>(alloc: Global, disk: &mut D, size: StoreSize) -> Stepped
     ensures seen { D.seen disk.new ≡ D.seen disk.old }
     ensures blocks { blocks_of result.0 ≤ D.seen disk.new }
     ensures going { OnOk result.1 (is_refused result.0 ≡ false) }
+    ensures notes { (begun : DiskState) → KeepsNotes (RecoverStage.ReadFirst size) result.0 result.1 begun }
     ensures cause { HasCause RecoverError.DiskFault (D.faults disk.old) (D.faults disk.new) result.1 }
+    ensures order { is_synced result.0 ≡ true }
 {
     match read_page(alloc, disk, 0) {
         Ok(page) => {
@@ -156,7 +165,9 @@ fn read_second<D: Disk>(alloc: Global, disk: &mut D, first: FirstRead) -> Steppe
     ensures seen { D.seen disk.new ≡ D.seen disk.old }
     ensures blocks { blocks_of result.0 ≤ D.seen disk.new }
     ensures going { OnOk result.1 (is_refused result.0 ≡ false) }
+    ensures notes { (begun d : DiskState) → D.told disk.old ≡ Some d → IsRecovering (RecoverStage.ReadSecond first) begun d → KeepsNotes (RecoverStage.ReadSecond first) result.0 result.1 begun }
     ensures cause { HasCause RecoverError.DiskFault (D.faults disk.old) (D.faults disk.new) result.1 }
+    ensures order { is_synced result.0 ≡ true }
 {
     match read_page(alloc, disk, 1) {
         Ok(page) => decide(alloc, first, &read_head(&page)),
@@ -175,11 +186,14 @@ fn decide(alloc: Global, first: FirstRead, second: &HeadRead) -> Stepped
         → ((h : Head) → second.now ≡ HeadRead.Good h → read_at begun 1 ≡ head_page h) → IsRecovering result.0 begun d }
     ensures calls { (begun d : DiskState) → HasReadFirst begun first d → second.now ≡ head_read (read_at begun 1)
         → calls_by_choice begun.size (reads_of begun) ≡ recovery_calls_left result.0 begun }
+    ensures notes { (begun d : DiskState) → HasReadFirst begun first d → second.now ≡ head_read (read_at begun 1)
+        → HasNotedAt result.0 0 [] begun }
     ensures blocks { blocks_of result.0 ≤ first.size.places }
     ensures going { OnOk result.1 (is_refused result.0 ≡ false) }
     ensures error { IfErr result.1 (StandsAfter (RecoverStage.ReadSecond first) result.0) }
     ensures ends { IfErr result.1 (λ error. is_retried error ≡ false) }
     ensures no_fault { result.1 ≡ Err RecoverError.DiskFault → ⊥ }
+    ensures order { is_synced result.0 ≡ true }
 {
     match choose_head(first.size.places, &first.read, second) {
         Ok(head) if are_one_head(&first.read, second) => (after_heads(alloc, head), Ok(())),
@@ -219,7 +233,9 @@ fn mend<D: Disk>(alloc: Global, disk: &mut D, mending: Mending) -> Stepped
     ensures seen { D.seen disk.new ≡ D.seen disk.old }
     ensures blocks { blocks_of result.0 ≤ D.seen disk.new }
     ensures going { OnOk result.1 (is_refused result.0 ≡ false) }
+    ensures notes { (begun : DiskState) → KeepsNotes (RecoverStage.Mend mending) result.0 result.1 begun }
     ensures cause { HasCause RecoverError.DiskFault (D.faults disk.old) (D.faults disk.new) result.1 }
+    ensures order { is_synced result.0 ≡ true }
 {
     match write_copy(alloc, disk, mending.place, &mending.head) {
         Ok(()) => (RecoverStage::SettleMend(mending), Ok(())),
@@ -238,7 +254,9 @@ fn settle_mend<D: Disk>(alloc: Global, disk: &mut D, mending: Mending) -> Steppe
     ensures seen { D.seen disk.new ≡ D.seen disk.old }
     ensures blocks { blocks_of result.0 ≤ D.seen disk.new }
     ensures going { OnOk result.1 (is_refused result.0 ≡ false) }
+    ensures notes { (begun d : DiskState) → D.told disk.old ≡ Some d → IsRecovering (RecoverStage.SettleMend mending) begun d → KeepsNotes (RecoverStage.SettleMend mending) result.0 result.1 begun }
     ensures cause { HasCause RecoverError.DiskFault (D.faults disk.old) (D.faults disk.new) result.1 }
+    ensures order { is_synced result.0 ≡ true }
 {
     match disk.sync() {
         Ok(()) => (after_heads(alloc, mending.head), Ok(())),
@@ -255,12 +273,15 @@ fn after_heads(alloc: Global, head: Head) -> RecoverStage
     requires whole { is_rebuilding head.state ≡ false }
     ensures reached { (begun d : DiskState) → HasBothHeads begun head d → IsRecovering result begun d }
     ensures calls { (begun : DiskState) → journal_calls_of (reads_of begun) head ≡ recovery_calls_left result begun }
+    ensures notes { (begun : DiskState) (place : ℕ) → choice_of begun.size (reads_of begun) ≡ Ok head → place ≡ head_place (reads_of begun)
+        → HasNotedAt result place [] begun }
     ensures blocks { blocks_of result ≤ head.blocks }
     ensures going { is_refused result ≡ false }
+    ensures order { is_synced result ≡ true }
 {
     match head.state {
         State::Opened { count } => after_opening(alloc, head, count),
-        _ => RecoverStage::Ready(head),
+        _ => RecoverStage::Ready(ClosedHead { head }),
     }
 }
 
@@ -270,8 +291,11 @@ fn after_opening(alloc: Global, head: Head, count: u32) -> RecoverStage
     requires opened { head.state ≡ State.Opened count }
     ensures reached { (begun d : DiskState) → HasBothHeads begun head d → IsRecovering result begun d }
     ensures calls { (begun : DiskState) → journal_calls_of (reads_of begun) head ≡ recovery_calls_left result begun }
+    ensures notes { (begun : DiskState) (place : ℕ) → choice_of begun.size (reads_of begun) ≡ Ok head → place ≡ head_place (reads_of begun)
+        → HasNotedAt result place [] begun }
     ensures blocks { blocks_of result ≤ head.blocks }
     ensures going { is_refused result ≡ false }
+    ensures order { is_synced result ≡ true }
 {
     if count == 0 {
         return RecoverStage::Replay(replay_of(alloc, head, Images::new(alloc)));
@@ -317,8 +341,11 @@ fn read_image<D: Disk>(alloc: Global, disk: &mut D, journal: Journal) -> Stepped
     ensures seen { D.seen disk.new ≡ D.seen disk.old }
     ensures blocks { blocks_of result.0 ≤ D.seen disk.new }
     ensures going { OnOk result.1 (is_refused result.0 ≡ false) }
+    ensures notes { (begun : DiskState) → KeepsNotes (RecoverStage.ReadImage journal) result.0 result.1 begun }
+    ensures few { length journal.images ≤ most_slots result.0 }
     ensures cause { HasCause RecoverError.DiskFault (D.faults disk.old) (D.faults disk.new) result.1 }
     ensures image { OnOk result.1 (TakesImage (RecoverStage.ReadImage journal) result.0 (D.told disk.old)) }
+    ensures order { is_synced result.0 ≡ true }
 {
     match read_page(alloc, disk, journal.next_place()) {
         Ok(image) => take_image(alloc, journal, image),
@@ -336,11 +363,14 @@ fn take_image(alloc: Global, journal: Journal, image: Page) -> Stepped
     ensures list { (begun d : DiskState) → HasRead begun journal d
         → image ≡ read_at begun (journal_place journal.head + length journal.images)
         → Leaves (due_of (RecoverStage.ReadImage journal)) (recovery_calls_left (RecoverStage.ReadImage journal) begun) (recovery_calls_left result.0 begun) result.1 }
+    ensures notes { (begun : DiskState) → KeepsNotes (RecoverStage.ReadImage journal) result.0 result.1 begun }
+    ensures few { length journal.images ≤ most_slots result.0 }
     ensures blocks { blocks_of result.0 ≤ journal.head.blocks }
     ensures going { OnOk result.1 (is_refused result.0 ≡ false) }
     ensures image { OnOk result.1 (images_by result.0 ≡ journal.images ++ image ∷ []) }
     ensures error { IfErr result.1 (StandsAfter (RecoverStage.ReadImage journal) result.0) }
     ensures no_fault { result.1 ≡ Err RecoverError.DiskFault → ⊥ }
+    ensures order { is_synced result.0 ≡ true }
 {
     match journal.refusal(&image) {
         Some(error) => refused(Refusal { error }),
@@ -356,11 +386,14 @@ fn add_image(alloc: Global, journal: Journal, image: Page) -> Stepped
     ensures list { (begun d : DiskState) → HasRead begun journal d
         → image ≡ read_at begun (journal_place journal.head + length journal.images)
         → Leaves (due_of (RecoverStage.ReadImage journal)) (recovery_calls_left (RecoverStage.ReadImage journal) begun) (recovery_calls_left result.0 begun) result.1 }
+    ensures notes { (begun : DiskState) → KeepsNotes (RecoverStage.ReadImage journal) result.0 result.1 begun }
+    ensures few { length journal.images ≤ most_slots result.0 }
     ensures blocks { blocks_of result.0 ≤ journal.head.blocks }
     ensures going { OnOk result.1 (is_refused result.0 ≡ false) }
     ensures image { OnOk result.1 (images_by result.0 ≡ journal.images ++ image ∷ []) }
     ensures error { IfErr result.1 (StandsAfter (RecoverStage.ReadImage journal) result.0) }
     ensures no_fault { result.1 ≡ Err RecoverError.DiskFault → ⊥ }
+    ensures order { is_synced result.0 ≡ true }
 {
     match journal.add(image) {
         Ok(Grown::Part(journal)) => (RecoverStage::ReadImage(journal), Ok(())),
@@ -383,7 +416,10 @@ fn go_on<D: Disk>(disk: &mut D, replay: Replay) -> Stepped
     ensures seen { D.seen disk.new ≡ D.seen disk.old }
     ensures blocks { blocks_of result.0 ≤ D.seen disk.new }
     ensures going { OnOk result.1 (is_refused result.0 ≡ false) }
+    ensures notes { (begun d : DiskState) → D.told disk.old ≡ Some d → IsRecovering (RecoverStage.Replay replay) begun d → KeepsNotes (RecoverStage.Replay replay) result.0 result.1 begun }
+    ensures few { 65536 ≤ most_slots result.0 }
     ensures cause { HasCause RecoverError.DiskFault (D.faults disk.old) (D.faults disk.new) result.1 }
+    ensures order { is_synced result.0 ≡ true }
 {
     let Replay { mut commit, head } = replay;
     match commit.step(disk) {
@@ -397,6 +433,7 @@ fn go_on<D: Disk>(disk: &mut D, replay: Replay) -> Stepped
 
 // The stage after a step of the commit.
 fn after_step(commit: Commit, head: Head, step: CommitStep) -> Stepped
+    requires is { IsHead head }
     requires closes { head ≡ closed_head (head_of commit) (epoch_of commit) }
     requires rested { step ≡ CommitStep.Rested → stage_of commit ≡ Stage.Rested }
     requires late { step ≢ CommitStep.Rested → is_late (stage_of commit) ≡ true }
@@ -404,11 +441,16 @@ fn after_step(commit: Commit, head: Head, step: CommitStep) -> Stepped
     ensures calls { (begun : DiskState) → recovery_calls_left result.0 begun ≡ changes (calls_left commit) }
     ensures reached { (begun d : DiskState)
         → IsReplaying begun (head_of commit) (epoch_of commit) (images_of commit) (stage_of commit) d → IsRecovering result.0 begun d }
+    ensures notes { (begun : DiskState) (place : ℕ) (slots : List ℕ) → choice_of begun.size (reads_of begun) ≡ Ok (opened_head (head_of commit) (epoch_of commit) (images_of commit))
+        → journal_of (reads_of begun) (opened_head (head_of commit) (epoch_of commit) (images_of commit)) ≡ images_of commit
+        → place ≡ head_place (reads_of begun) → slots ≡ map slot_of (images_of commit) → HasNotedAt result.0 place slots begun }
+    ensures few { 65536 ≤ most_slots result.0 }
     ensures blocks { blocks_of result.0 ≤ (head_of commit).blocks }
     ensures going { OnOk result.1 (is_refused result.0 ≡ false) }
+    ensures order { is_synced result.0 ≡ true }
 {
     match step {
-        CommitStep::Rested => (RecoverStage::Ready(head), Ok(())),
+        CommitStep::Rested => (RecoverStage::Ready(ClosedHead { head }), Ok(())),
         CommitStep::Wrote | CommitStep::Synced | CommitStep::Committed | CommitStep::Idle => {
             (RecoverStage::Replay(Replay { commit, head }), Ok(()))
         }

@@ -10,11 +10,12 @@ use std::test::Fail;
 use vb_block::{Page, Why, get_u32};
 use vb_disk::{Disk, MemoryDisk, Side};
 
-// What a recovery came to: the head, the slots of the images that it lent, and whether a call failed.
-#[derive(Debug, Drop)]
+// What a recovery came to: what it found, the slots and places of the images that it lent, and whether a call failed.
+#[derive(Drop)]
 struct Found {
-    head: Head,
+    end: Recovery,
     slots: Vec<u32>,
+    places: Vec<u32>,
     failed: bool,
 }
 
@@ -22,20 +23,23 @@ struct Found {
 fn found_on<D: Disk>(alloc: Global, disk: &mut D) -> Result<Found, RecoverError> {
     let mut recovery = Recover::start(alloc);
     let mut slots = Vec::new(alloc);
+    let mut places = Vec::new(alloc);
     let mut failed = false;
     'steps: for _ in 0..100u32 {
         match recovery.step(disk) {
             Ok(Ahead::Ready) => {
-                let head = recovery.head();
+                let end = recovery.finish();
                 return Ok(Found {
-                    head,
+                    end,
                     slots,
+                    places,
                     failed,
                 });
             }
             Ok(Ahead::More) => {
                 if let Some(image) = recovery.image() {
                     let _ = slots.push(get_u32(image, 0));
+                    let _ = places.push(recovery.image_place());
                 }
             }
             Err(RecoverError::DiskFault) => failed = true,
@@ -47,8 +51,8 @@ fn found_on<D: Disk>(alloc: Global, disk: &mut D) -> Result<Found, RecoverError>
 
 // The head alone.
 fn recovered<D: Disk>(alloc: Global, disk: &mut D) -> Result<Head, RecoverError> {
-    let found = found_on(alloc, disk)?;
-    Ok(found.head)
+    let end = found_on(alloc, disk)?.end;
+    Ok(end.head)
 }
 
 // The disk of a commit of two images after so many of its steps.
@@ -100,7 +104,9 @@ fn a_hurt_head_is_mended(rt: HostRuntime) -> Result<(), Fail> {
     for place in 0..2u32 {
         let mut disk = small_disk(alloc)?;
         hurt(&mut disk, place)?;
-        assert_eq!(rt; recovered(alloc, &mut disk)?, small_head());
+        let end = found_on(alloc, &mut disk)?.end;
+        assert_eq!(rt; end.head, small_head());
+        assert_eq!(rt; end.place, 1 - place);
         let page = page_at(alloc, &mut disk, place)?;
         assert_eq!(rt; read_head(&page), HeadRead::Good(small_head()));
     }
@@ -108,10 +114,13 @@ fn a_hurt_head_is_mended(rt: HostRuntime) -> Result<(), Fail> {
 }
 
 #[test]
-fn each_image_is_lent(rt: HostRuntime) -> Result<(), Fail> {
+fn each_image_is_lent_and_its_slot_noted(rt: HostRuntime) -> Result<(), Fail> {
     let alloc = rt.alloc();
     let found = found_on(alloc, &mut disk_after(alloc, 7)?)?;
     assert_eq!(rt; found.slots.as_slice(), [3, 5].as_slice());
+    assert_eq!(rt; found.places.as_slice(), [18, 19].as_slice());
+    assert_eq!(rt; found.end.slots.as_slice(), [3, 5].as_slice());
+    assert_eq!(rt; found.end.place, 0);
     assert!(rt; !found.failed);
     Ok(())
 }
@@ -160,7 +169,7 @@ fn a_failed_call_is_made_again(rt: HostRuntime) -> Result<(), Fail> {
         disk.fail_call(nth, nth % 2 == 0)?;
         let found = found_on(alloc, &mut disk)?;
         assert!(rt; found.failed, "at {nth}");
-        assert_eq!(rt; found.head.sequence, 4);
+        assert_eq!(rt; found.end.head.sequence, 4);
     }
     Ok(())
 }

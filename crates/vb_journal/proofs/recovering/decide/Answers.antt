@@ -3,7 +3,8 @@ use Rattle.vb_journal.specs.declared.recover_stage.RecoverStage.{RecoverStage}
 use Rattle.vb_journal.specs.Recovering.{IsHopeless, IsRecovering}
 use Rattle.vb_journal.proofs.AfterRecoveries.{settled_recovers}
 use Rattle.vb_journal.proofs.Choices.{IsChosen-from, one-head}
-use Rattle.vb_journal.proofs.HeadReads.{HasReadBoth, both-chosen, chosen-is, hopeless-heads, mending-chosen}
+use Rattle.vb_journal.proofs.HeadReads.{HasReadBoth, both-chosen, choice-read, chosen-is, hopeless-heads, mending-chosen}
+use Rattle.vb_journal.proofs.NotesKept.{place-one}
 use Rattle.vb_journal.proofs.recovering.decide.Goals as goal
 
 pub after_heads-requires-clause-is : goal.after_heads-requires-clause-is
@@ -38,3 +39,9 @@ returns-in-Err-clause-reached c begun d has second spelled =
     } in
     let Q : RecoverStage → Type 0 = λ s. IsRecovering s begun d in
     subst Q (sym c.refused.ensures.stage) hopeless
+
+pub returns-in-Ok-clause-notes : goal.returns-in-Ok-clause-notes
+returns-in-Ok-clause-notes c begun d has second =
+    let is = sym c.choose_head.ensures ∙ c.in-Ok.is in
+    let same : c.args.first.read ≡ c.args.second.now = one-head c.args.first.read c.args.second.now (sym c.are_one_head.ensures ∙ c.if-are_one_head.true) in
+    c.after_heads.ensures.notes begun 0 (choice-read begun d c.args.first c.args.second.now has second ∙ is) (place-one begun d c.args.first c.args.second.now c.in-Ok.head has second is same)

@@ -2,7 +2,6 @@ use Rattle.std.proofs.Common.{◌≡◌, ◌∙◌, ap, sym, arith}
 use Rattle.vb_disk.specs.States.{read_at}
 use Rattle.vb_head.specs.Heads.{head_read}
 use Rattle.vb_journal.specs.declared.recover_stage.RecoverStage.TheVariants.{ReadFirst}
-use Rattle.vb_journal.proofs.AfterRecoveries.{EachRecovers-known}
 use Rattle.vb_journal.proofs.HeadReads.{read-first, unsealed-differs}
 use Rattle.vb_journal.proofs.Settled.{read_at-stands}
 use Rattle.vb_journal.proofs.StepsOfRecoveries.{stays}
@@ -18,10 +17,10 @@ pub returns-in-Ok-clause-known : goal.returns-in-Ok-clause-known
 returns-in-Ok-clause-known g c begun d told is =
     let page : c.in-Ok.page ≡ read_at begun 0 = c.in-Ok.ensures.read d told ∙ read_at-stands 0 0 begun d is.0 (omega arith) in
     let read : c.read_head-read.result ≡ head_read (read_at begun 0) = c.read_head-read.ensures.read ∙ ap head_read page in
-    stays begun d (ReadFirst c.args.size) _ (g.D.Disk.told c.read_page.new.disk) (c.in-Ok.ensures.told ∙ told)
-    (read-first begun d _ is.0 is.1 read (λ h good. sym page ∙ (c.read_head-read.ensures.spelled h good).0)) (EachRecovers-known (ReadFirst c.args.size) begun d is)
+    stays begun d (ReadFirst c.args.size) _ (g.D.Disk.told c.read_page.new.disk) (c.in-Ok.ensures.told ∙ told) is
+    (read-first begun d _ is.0 is.1 read (λ h good. sym page ∙ (c.read_head-read.ensures.spelled h good).0))
 
 pub returns-in-Err-clause-known : goal.returns-in-Err-clause-known
 returns-in-Err-clause-known g c begun d told is =
     let stage = ReadFirst c.args.size in
-    stays begun d stage stage (g.D.Disk.told c.read_page.new.disk) (c.in-Err.ensures.told ∙ told) is (EachRecovers-known stage begun d is)
+    stays begun d stage stage (g.D.Disk.told c.read_page.new.disk) (c.in-Err.ensures.told ∙ told) is is

@@ -1,9 +1,12 @@
-use Rattle.std.proofs.Common.{◌≡◌, Bool, cond, false, None, sym, subst}
+use Rattle.std.proofs.Common.{◌≡◌, ◌∙◌, ℕ, Bool, cond, false, List, Option, None, sym, ap, subst}
 use Rattle.vb_journal.specs.declared.recover.Ahead.{Ahead}
 use Rattle.vb_journal.specs.declared.recover_stage.RecoverStage.{RecoverStage}
+use Rattle.vb_journal.specs.Notes.{HasNotedAt, slots_with}
 use Rattle.vb_journal.specs.Recovering.{MakesCall, IsRecovering, TakesImage, due_of, images_by, is_refused}
-use Rattle.vb_journal.specs.Recovers.{AnswersRecovery, IsAheadOf, Lends, last_of}
+use Rattle.vb_journal.specs.Recovers.{AnswersRecovery, IsAheadOf, Lends, is_reading, last_of}
 use Rattle.vb_journal.proofs.Answering.{ahead-of, ahead_ok, answers-ok, lends-taken, makes-ok, on-ok}
+use Rattle.vb_journal.proofs.NotesKept.{noted-err, noted-ok}
+use Rattle.vb_journal.proofs.StepsOfRecoveries.{stays}
 use Rattle.vb_journal.proofs.recover.Recover.step.Goals as goal
 
 pub returns-in-Ok-clause-calls : goal.returns-in-Ok-clause-calls
@@ -20,9 +23,9 @@ returns-in-Ok-clause-ahead g c =
 pub returns-in-Ok-clause-image : goal.returns-in-Ok-clause-image
 returns-in-Ok-clause-image g c =
     let taken : TakesImage c.replace-stage.result c.step_from-stage.result.0 (g.D.Disk.told c.args.disk.now) = on-ok _ c.step_from-stage.result.1 c.in-Ok.field-0 c.in-Ok.is c.step_from-stage.ensures.image in
-    let Q : RecoverStage → Type 0 = λ s. Lends s (cond c.reads_image-reads_image.result (last_of (images_by c.step_from-stage.result.0)) None) (g.D.Disk.told c.args.disk.now) in
-    let R : Bool → Type 0 = λ b. Lends c.replace-stage.result (cond b (last_of (images_by c.step_from-stage.result.0)) None) (g.D.Disk.told c.args.disk.now) in
-    subst Q c.replace-stage.ensures.value (subst R (sym c.reads_image-reads_image.ensures) (lends-taken c.replace-stage.result c.step_from-stage.result.0 (g.D.Disk.told c.args.disk.now) taken))
+    let Q : RecoverStage → Type 0 = λ s. Lends s (cond (is_reading s) (last_of (images_by c.step_from-stage.result.0)) None) (g.D.Disk.told c.args.disk.now) in
+    let R : Bool → Type 0 = λ b. Lends c.args.self.now.stage (cond b (last_of (images_by c.step_from-stage.result.0)) None) (g.D.Disk.told c.args.disk.now) in
+    subst R (sym c.reads_image-reads_image.ensures) (subst Q c.replace-stage.ensures.value (lends-taken c.replace-stage.result c.step_from-stage.result.0 (g.D.Disk.told c.args.disk.now) taken))
 
 pub returns-in-Ok-clause-answer : goal.returns-in-Ok-clause-answer
 returns-in-Ok-clause-answer g c begun d told is =
@@ -31,3 +34,26 @@ returns-in-Ok-clause-answer g c begun d told is =
     let steps = c.step_from-stage.ensures.known begun d told (subst Q (sym c.replace-stage.ensures.value) is) in
     let R : Ahead → Type 0 = λ a. AnswersRecovery begun c.step_from-stage.result.0 (ahead_ok a) in
     subst R (sym c.ahead-ahead.ensures) (answers-ok begun steps.next c.step_from-stage.result.0 going steps.known)
+
+pub returns-then-is_err-clause-crash : goal.returns-then-is_err-clause-crash
+returns-then-is_err-clause-crash g c begun d told is =
+    let stage = c.args.self.now.stage in
+    stays begun d stage stage (g.D.Disk.told c.args.disk.now) told is is
+
+pub returns-in-Ok-clause-noted : goal.returns-in-Ok-clause-noted
+returns-in-Ok-clause-noted g c begun d told is has =
+    let before : c.args.self.now.stage ≡ c.replace-stage.result = sym c.replace-stage.ensures.value in
+    let Q : RecoverStage → Type 0 = λ s. IsRecovering s begun d in
+    let N : RecoverStage → Type 0 = λ s. HasNotedAt s c.args.self.now.place c.args.self.now.slots.items begun in
+    let read : Option (List ℕ) = cond c.reads_image-reads_image.result (last_of (images_by c.step_from-stage.result.0)) None in
+    noted-ok begun c.replace-stage.result c.step_from-stage.result.0 c.step_from-stage.result.1 c.in-Ok.field-0 c.reads_image-reads_image.result c.args.self.now.place c.place_after-self.result c.args.self.now.slots.items c.note_slot.new.slots.items c.in-Ok.is
+    (c.reads_image-reads_image.ensures ∙ ap is_reading before) (c.step_from-stage.ensures.notes begun d told (subst Q before is)) (subst N before has) c.place_after-self.ensures
+    (c.note_slot.ensures.slots ∙ ap (λ (l : List ℕ). slots_with l read) c.make_room.ensures.items)
+
+pub returns-in-Err-clause-noted : goal.returns-in-Err-clause-noted
+returns-in-Err-clause-noted g c begun d told is has =
+    let before : c.args.self.now.stage ≡ c.replace-stage.result = sym c.replace-stage.ensures.value in
+    let Q : RecoverStage → Type 0 = λ s. IsRecovering s begun d in
+    let N : RecoverStage → Type 0 = λ s. HasNotedAt s c.args.self.now.place c.args.self.now.slots.items begun in
+    noted-err begun c.replace-stage.result c.step_from-stage.result.0 c.step_from-stage.result.1 c.in-Err.error c.args.self.now.place c.place_after-self.result c.args.self.now.slots.items c.make_room.new.slots.items c.in-Err.is
+    (c.step_from-stage.ensures.notes begun d told (subst Q before is)) (subst N before has) c.place_after-self.ensures c.make_room.ensures.items

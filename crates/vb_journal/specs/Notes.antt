@@ -1,0 +1,109 @@
+-- What a recovery notes on its way: the place of the head that counted when it began, and the slots of the journal's
+-- images.
+use Rattle.std.specs.Prelude.{◌≡◌, ℕ, ◌-◌, if◌then◌else◌, List, [], ◌∷◌, ◌++◌, map, Option, Some, None, Result, Ok, Err}
+use Rattle.vb_disk.specs.States.{DiskState}
+use Rattle.vb_head.specs.declared.head.Head.{Head}
+use Rattle.vb_head.specs.Heads.{head_read}
+use Rattle.vb_journal.specs.declared.recover.Recover.{Recover}
+use Rattle.vb_journal.specs.declared.recover_error.RecoverError.{RecoverError}
+use Rattle.vb_journal.specs.declared.recover_stage.RecoverStage.{RecoverStage}
+use Rattle.vb_journal.specs.declared.recover_stage.RecoverStage.TheVariants.{Ask, Settle, ReadFirst, ReadSecond, Mend, SettleMend, ReadImage, Replay, Ready, Refused}
+use Rattle.vb_journal.specs.Commits.{images_of}
+use Rattle.vb_journal.specs.Images.{slot_of}
+use Rattle.vb_journal.specs.Outcomes.{reads_of}
+use Rattle.vb_journal.specs.Recoveries.{choice_of, greater_place, journal_of}
+use Rattle.vb_journal.specs.Recovering.{images_by}
+use Rattle.vb_journal.specs.Recovers.{is_reading, last_of}
+use Rattle.vb_journal.specs.Shown.{good_of}
+
+-- the place of the head that counts
+abbrev pub head_place : (ℕ → List ℕ) → ℕ
+head_place reads = greater_place (good_of (head_read (reads 0))) (good_of (head_read (reads 1)))
+
+-- the slots of the journal's images that a head counts in
+abbrev pub journal_slots : (ℕ → List ℕ) → Head → List ℕ
+journal_slots reads head = map slot_of (journal_of reads head)
+
+-- these are the slots of the journal that was found when the recovery began
+abbrev pub AreJournalSlots : DiskState → List ℕ → Type 0
+AreJournalSlots begun slots = (chosen : Head) → choice_of begun.size (reads_of begun) ≡ Ok chosen → slots ≡ journal_slots (reads_of begun) chosen
+
+-- what a recovery that has ended noted of the disk that it began on
+pub record IsNoted (begun : DiskState) (place : ℕ) (slots : List ℕ) : Type 0 where
+  pub place_is : place ≡ head_place (reads_of begun)
+  pub slots_are : AreJournalSlots begun slots
+
+-- the place that is noted at a stage: none before the heads were read, and then that of the head that counts. While
+-- the other one is to be mended, the stage has the place of that one.
+abbrev pub IsPlaceAt : RecoverStage → ℕ → DiskState → Type 0
+IsPlaceAt Ask place begun = place ≡ 0
+IsPlaceAt (Settle size) place begun = place ≡ 0
+IsPlaceAt (ReadFirst size) place begun = place ≡ 0
+IsPlaceAt (ReadSecond first) place begun = place ≡ 0
+IsPlaceAt (Mend mending) place begun = mending.place ≡ 1 - head_place (reads_of begun)
+IsPlaceAt (SettleMend mending) place begun = place ≡ head_place (reads_of begun)
+IsPlaceAt (ReadImage journal) place begun = place ≡ head_place (reads_of begun)
+IsPlaceAt (Replay replay) place begun = place ≡ head_place (reads_of begun)
+IsPlaceAt (Ready ready) place begun = place ≡ head_place (reads_of begun)
+IsPlaceAt (Refused refusal) place begun = Unit {0}
+
+-- the slots that are noted at a stage: those of the images that were read
+abbrev pub AreSlotsAt : RecoverStage → List ℕ → DiskState → Type 0
+AreSlotsAt Ask slots begun = slots ≡ []
+AreSlotsAt (Settle size) slots begun = slots ≡ []
+AreSlotsAt (ReadFirst size) slots begun = slots ≡ []
+AreSlotsAt (ReadSecond first) slots begun = slots ≡ []
+AreSlotsAt (Mend mending) slots begun = slots ≡ []
+AreSlotsAt (SettleMend mending) slots begun = slots ≡ []
+AreSlotsAt (ReadImage journal) slots begun = slots ≡ map slot_of journal.images
+AreSlotsAt (Replay replay) slots begun = slots ≡ map slot_of (images_of replay.commit)
+AreSlotsAt (Ready ready) slots begun = AreJournalSlots begun slots
+AreSlotsAt (Refused refusal) slots begun = Unit {0}
+
+-- a recovery that began on this disk has noted these at a stage
+pub record HasNotedAt (stage : RecoverStage) (place : ℕ) (slots : List ℕ) (begun : DiskState) : Type 0 where
+  pub place_is : IsPlaceAt stage place begun
+  pub slots_are : AreSlotsAt stage slots begun
+
+-- so it has by now
+abbrev pub HasNoted : Recover → DiskState → Type 0
+HasNoted r begun = HasNotedAt r.stage r.place r.slots.items begun
+
+-- the slots that it noted by now
+abbrev pub slots_noted : Recover → List ℕ
+slots_noted r = r.slots.items
+
+-- ---- steps
+
+-- the place that is noted once a step was made from a stage
+abbrev pub place_after : RecoverStage → ℕ → ℕ
+place_after Ask place = place
+place_after (Settle size) place = place
+place_after (ReadFirst size) place = place
+place_after (ReadSecond first) place = place
+place_after (Mend mending) place = 1 - mending.place
+place_after (SettleMend mending) place = place
+place_after (ReadImage journal) place = place
+place_after (Replay replay) place = place
+place_after (Ready ready) place = place
+place_after (Refused refusal) place = place
+
+-- the slots, with that of an image behind them where one was read
+abbrev pub slots_with : List ℕ → Option (List ℕ) → List ℕ
+slots_with slots None = slots
+slots_with slots (Some image) = slots ++ slot_of image ∷ []
+
+-- the image where the step was made
+abbrev pub if_made : {T : Type 0} → Result T RecoverError → Option (List ℕ) → Option (List ℕ)
+if_made (Ok x) image = image
+if_made (Err e) image = None
+
+-- the image that a step between these stages read, where it read one
+abbrev pub image_read : {T : Type 0} → RecoverStage → RecoverStage → Result T RecoverError → Option (List ℕ)
+image_read before after result = if is_reading before then if_made result (last_of (images_by after)) else None
+
+-- what was noted before a step and by it is what is to be noted after it
+abbrev pub KeepsNotes : {T : Type 0} → RecoverStage → RecoverStage → Result T RecoverError → DiskState → Type 0
+KeepsNotes before after result begun =
+    (place : ℕ) (slots : List ℕ) → HasNotedAt before place slots begun
+    → HasNotedAt after (place_after before place) (slots_with slots (image_read before after result)) begun
