@@ -9,7 +9,7 @@ use Rattle.vb_disk.specs.States.{DiskState}
 use Rattle.vb_store.specs.Clear.{IsClear, taken_cell}
 
 -- the candidates of a place don't depend on whether it is taken as whole
-candidates-taken : (whole : Bool) (cell : Cell) → candidates (taken_cell whole cell) ≡ candidates cell
+pub candidates-taken : (whole : Bool) (cell : Cell) → candidates (taken_cell whole cell) ≡ candidates cell
 candidates-taken true cell = refl
 candidates-taken false cell = refl
 

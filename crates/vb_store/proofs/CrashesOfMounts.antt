@@ -1,5 +1,5 @@
 -- What crashes leave of a store while it is mounted: the same metadata.
-use Rattle.std.proofs.Common.{◌≡◌, ℕ, ◌≤◌, List, [], ◌∷◌, length, get_or, None, Result, Ok, Err, refl, sym, ap, subst, ◌∙◌, arith}
+use Rattle.std.proofs.Common.{◌≡◌, ℕ, ◌≤◌, List, [], ◌∷◌, length, get_or, true, None, Result, Ok, Err, refl, sym, ap, subst, ◌∙◌, arith}
 use Rattle.std.specs.List.{All}
 use Rattle.std.proofs.lemmas.List.Elements.{All-cons, All-nil, All-weaker}
 use Rattle.vb_disk.specs.declared.cell.Cell.{Cell}
@@ -11,7 +11,7 @@ use Rattle.vb_journal.specs.declared.recover_error.RecoverError.{RecoverError}
 use Rattle.vb_journal.specs.declared.recover_stage.RecoverStage.{RecoverStage}
 use Rattle.vb_journal.specs.declared.recover_stage.RecoverStage.TheVariants.{Ask, Settle, ReadFirst, ReadSecond, Mend, SettleMend, ReadImage, Replay, Ready, Refused}
 use Rattle.vb_journal.specs.Commits.{epoch_of, head_of, images_of}
-use Rattle.vb_journal.specs.Interruptions.{IsSteadyAt}
+use Rattle.vb_journal.specs.Interruptions.{IsSteadyAt, is_synced}
 use Rattle.vb_journal.specs.Outcomes.{reads_of, recovery_on}
 use Rattle.vb_journal.specs.Plans.{opened_head}
 use Rattle.vb_journal.specs.Recoveries.{Recovered, choice_of, journal_of, journal_place, node_images, recovered_by, recovered_from, recovery_of, settled_head}
@@ -19,7 +19,8 @@ use Rattle.vb_journal.specs.Recovering.{IsRecovering}
 use Rattle.vb_journal.proofs.Interrupted.{steady}
 use Rattle.vb_nodes.specs.Holdings.{index_from}
 use Rattle.vb_store.specs.declared.map_page.MapPage.{MapPage}
-use Rattle.vb_store.specs.Metadata.{Mapped, Metadata, after_claim, after_page, and_then, block_of, head_place, index_or_refusal, journal_fault, known_below, mapped_from, maps_in, maps_left, metadata_from, metadata_of, no_claims, nodes_left, unless}
+use Rattle.vb_journal.specs.Notes.{head_place}
+use Rattle.vb_store.specs.Metadata.{Mapped, Metadata, after_claim, after_page, and_then, block_of, index_or_refusal, journal_fault, known_below, mapped_from, maps_in, maps_left, metadata_from, metadata_of, no_claims, nodes_left, unless}
 use Rattle.vb_store.specs.RecoveredStores.{metadata_on}
 use Rattle.vb_store.specs.Sameness.{IsSameStore}
 use Rattle.vb_store.specs.Views.{data_start, limits_of}
@@ -72,7 +73,7 @@ maps-in_data size reads m has =
 -- ---- what a crash leaves of the data places
 
 -- a place that was only synced reads the same after a crash
-crashed-read : (begun d new : DiskState) (place : ℕ) → d.cells place ≡ synced_cell (begun.cells place) → MayCrashTo d new → read_at new place ≡ read_at begun place
+pub crashed-read : (begun d new : DiskState) (place : ℕ) → d.cells place ≡ synced_cell (begun.cells place) → MayCrashTo d new → read_at new place ≡ read_at begun place
 crashed-read begun d new place is crash =
     ap read_of (cell_stands (d.cells place) (new.cells place) (ap (λ (c : Cell). c.later) is) (crash.each place)) ∙ ap read_of is
 
@@ -95,44 +96,63 @@ metadata-crashed begun d new m has is stands recovery crash =
 -- ---- at each stage of the recovery
 
 -- a place with one candidate stands when it is synced
-settled_is : (cell : Cell) → cell.later ≡ [] → cell ≡ synced_cell cell
+pub settled_is : (cell : Cell) → cell.later ≡ [] → cell ≡ synced_cell cell
 settled_is cell one =
     let first : cell.first ≡ (synced_cell cell).first = sym (ap (λ (l : List (List ℕ)). get_or (cell.first ∷ l) (length l) cell.first) one) in
     λ i. record { first = first i; later = one i; hurt = cell.hurt }
 
 -- where there are metadata, the journal recovers
-recovers : (begun : DiskState) (m : Metadata) (has : HasMetadata begun.size (reads_of begun) m) → recovery_on begun ≡ Ok (record { head = settled_head has.head; images = node_images (reads_of begun) has.head })
+pub recovers : (begun : DiskState) (m : Metadata) (has : HasMetadata begun.size (reads_of begun) m) → recovery_on begun ≡ Ok (record { head = settled_head has.head; images = node_images (reads_of begun) has.head })
 unfolding recovery_of
 recovers begun m has =
     ap (recovered_by (reads_of begun)) has.counts
     ∙ ap (recovered_from (reads_of begun) has.head) (journal_refusal-none has.head.nodes (journal_place has.head) [] (journal_of (reads_of begun) has.head) has.sound)
 
-one_head : (a b : Head) (r : Result Head RecoverError) → r ≡ Ok a → r ≡ Ok b → a ≡ b
+pub one_head : (a b : Head) (r : Result Head RecoverError) → r ≡ Ok a → r ≡ Ok b → a ≡ b
 one_head a b r first second = let same : Ok a ≡ Ok b = sym first ∙ second in cc same
 
-stands_at : (stage : RecoverStage) (begun d : DiskState) (m : Metadata) (has : HasMetadata begun.size (reads_of begun) m) → IsRecovering stage begun d → IsSteadyAt stage begun → DataStands has.head begun d
-stands_at Ask begun d m has is going = record { size = ap (λ (x : DiskState). x.size) is; each = λ p above. ap (λ (x : DiskState). x.cells p) is ∙ settled_is (begun.cells p) (going p) }
-stands_at (Settle size) begun d m has is going = record { size = ap (λ (x : DiskState). x.size) is.0; each = λ p above. ap (λ (x : DiskState). x.cells p) is.0 ∙ settled_is (begun.cells p) (going p) }
-stands_at (ReadFirst size) begun d m has is going = record { size = is.0.size; each = λ p above. is.0.each p (omega arith) }
-stands_at (ReadSecond first) begun d m has is going = record { size = is.stands.size; each = λ p above. is.stands.each p (omega arith) }
-stands_at (Mend mending) begun d m has is going = record { size = is.stands.size; each = λ p above. is.stands.each p (omega (arith, above)) }
-stands_at (SettleMend mending) begun d m has is going = record { size = is.stands.size; each = λ p above. is.stands.each p (omega (arith, above)) }
-stands_at (ReadImage journal) begun d m has is going = record { size = is.heads.stands.size; each = λ p above. is.heads.stands.each p (omega (arith, above)) }
-stands_at (Replay replay) begun d m has is going =
+-- no metadata are there where the journal is refused
+pub refused_recovery : {A : Type 0} (begun : DiskState) (m : Metadata) (e : RecoverError) → recovery_on begun ≡ Err e → metadata_on begun ≡ Ok m → A
+refused_recovery begun m e refused there =
+    let has = has_metadata begun.size (reads_of begun) m there in
+    let found : Recovered = record { head = settled_head has.head; images = node_images (reads_of begun) has.head } in
+    let clash : Ok found ≡ Err e = sym (recovers begun m has) ∙ refused in
+    absurd (cc clash)
+
+-- from the first sync on the data places stand but for it
+pub stands_synced : (stage : RecoverStage) (begun d : DiskState) (m : Metadata) (has : HasMetadata begun.size (reads_of begun) m) → metadata_on begun ≡ Ok m → is_synced stage ≡ true → IsRecovering stage begun d → DataStands has.head begun d
+stands_synced Ask begun d m has there synced is = absurd (cc synced)
+stands_synced (Settle size) begun d m has there synced is = absurd (cc synced)
+stands_synced (ReadFirst size) begun d m has there synced is = record { size = is.0.size; each = λ p above. is.0.each p (omega arith) }
+stands_synced (ReadSecond first) begun d m has there synced is = record { size = is.stands.size; each = λ p above. is.stands.each p (omega arith) }
+stands_synced (Mend mending) begun d m has there synced is = record { size = is.stands.size; each = λ p above. is.stands.each p (omega (arith, above)) }
+stands_synced (SettleMend mending) begun d m has there synced is = record { size = is.stands.size; each = λ p above. is.stands.each p (omega (arith, above)) }
+stands_synced (ReadImage journal) begun d m has there synced is = record { size = is.heads.stands.size; each = λ p above. is.heads.stands.each p (omega (arith, above)) }
+stands_synced (Replay replay) begun d m has there synced is =
     let same : has.head ≡ opened_head (head_of replay.commit) (epoch_of replay.commit) (images_of replay.commit) = one_head has.head (opened_head (head_of replay.commit) (epoch_of replay.commit) (images_of replay.commit)) (choice_of begun.size (reads_of begun)) has.counts is.counts in
     let nodes : has.head.nodes ≡ (head_of replay.commit).nodes = ap (λ (h : Head). h.nodes) same in
     record { size = is.whole.size; each = λ p above. is.whole.others_stand p (omega (arith, above, nodes)) }
-stands_at (Ready head) begun d m has is going =
+stands_synced (Ready ready) begun d m has there synced is =
     let same : has.head ≡ is.chosen = one_head has.head is.chosen (choice_of begun.size (reads_of begun)) has.counts is.counts in
-    let nodes : head.nodes ≡ has.head.nodes = ap (λ (h : Head). h.nodes) (sym is.settles) ∙ settled-nodes is.chosen is.chosen.state ∙ ap (λ (h : Head). h.nodes) (sym same) in
+    let nodes : ready.head.nodes ≡ has.head.nodes = ap (λ (h : Head). h.nodes) (sym is.settles) ∙ settled-nodes is.chosen is.chosen.state ∙ ap (λ (h : Head). h.nodes) (sym same) in
     record { size = is.size; each = λ p above. is.others_stand p (omega (arith, above, nodes)) }
-stands_at (Refused refusal) begun d m has is going =
-    let found : Recovered = record { head = settled_head has.head; images = node_images (reads_of begun) has.head } in
-    let clash : Ok found ≡ Err refusal.error = sym (recovers begun m has) ∙ is.recovery in
-    absurd (cc clash)
+stands_synced (Refused refusal) begun d m has there synced is = refused_recovery begun m refusal.error is.recovery there
+
+-- and before it where each place had one candidate
+stands_at : (stage : RecoverStage) (begun d : DiskState) (m : Metadata) (has : HasMetadata begun.size (reads_of begun) m) → metadata_on begun ≡ Ok m → IsRecovering stage begun d → IsSteadyAt stage begun → DataStands has.head begun d
+stands_at Ask begun d m has there is going = record { size = ap (λ (x : DiskState). x.size) is; each = λ p above. ap (λ (x : DiskState). x.cells p) is ∙ settled_is (begun.cells p) (going p) }
+stands_at (Settle size) begun d m has there is going = record { size = ap (λ (x : DiskState). x.size) is.0; each = λ p above. ap (λ (x : DiskState). x.cells p) is.0 ∙ settled_is (begun.cells p) (going p) }
+stands_at (ReadFirst size) begun d m has there is going = stands_synced (ReadFirst size) begun d m has there refl is
+stands_at (ReadSecond first) begun d m has there is going = stands_synced (ReadSecond first) begun d m has there refl is
+stands_at (Mend mending) begun d m has there is going = stands_synced (Mend mending) begun d m has there refl is
+stands_at (SettleMend mending) begun d m has there is going = stands_synced (SettleMend mending) begun d m has there refl is
+stands_at (ReadImage journal) begun d m has there is going = stands_synced (ReadImage journal) begun d m has there refl is
+stands_at (Replay replay) begun d m has there is going = stands_synced (Replay replay) begun d m has there refl is
+stands_at (Ready ready) begun d m has there is going = stands_synced (Ready ready) begun d m has there refl is
+stands_at (Refused refusal) begun d m has there is going = stands_synced (Refused refusal) begun d m has there refl is
 
 -- each crash at a stage leaves the metadata that there were when the recovery began
 pub metadata-recovering : (stage : RecoverStage) (begun d new : DiskState) (m : Metadata) → IsRecovering stage begun d → IsSteadyAt stage begun → MayCrashTo d new → metadata_on begun ≡ Ok m → metadata_on new ≡ Ok m
 metadata-recovering stage begun d new m is going crash there =
     let has = has_metadata begun.size (reads_of begun) m there in
-    metadata-crashed begun d new m has there (stands_at stage begun d m has is going) (steady stage begun d new is going crash) crash
+    metadata-crashed begun d new m has there (stands_at stage begun d m has there is going) (steady stage begun d new is going crash) crash

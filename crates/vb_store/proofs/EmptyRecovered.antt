@@ -42,7 +42,8 @@ use Rattle.vb_store.specs.declared.map_page.MapPage.{MapPage}
 use Rattle.vb_store.specs.Clear.{IsClear, taken_as, taken_cell}
 use Rattle.vb_store.specs.EmptyStores.{HoldsEmptyStore, empty_home, whole_cell}
 use Rattle.vb_store.specs.Formats.{CanFormat, empty_node, made_head}
-use Rattle.vb_store.specs.Metadata.{Mapped, Metadata, Standing, and_then, block_of, head_place, index_or_refusal, journal_fault, known_below, mapped_from, maps_in, maps_left, maps_of, metadata_from, metadata_of, no_claims, node_checked, node_or_refusal, nodes_left, unless}
+use Rattle.vb_journal.specs.Notes.{head_place}
+use Rattle.vb_store.specs.Metadata.{Mapped, Metadata, Standing, and_then, block_of, index_or_refusal, journal_fault, known_below, mapped_from, maps_in, maps_left, maps_of, metadata_from, metadata_of, no_claims, node_checked, node_or_refusal, nodes_left, unless}
 use Rattle.vb_store.specs.Recovered.{Placed, Recovers, entries_read, placed_by, recovered, recovered_at, recovered_from}
 use Rattle.vb_store.specs.Views.{limits_of}
 use Rattle.vb_store.proofs.Chains.{refuse-passed}

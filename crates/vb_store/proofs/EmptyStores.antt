@@ -1,8 +1,8 @@
 -- An empty store: what crashes leave of it, what it shows, and that the next commit may start over it.
-use Rattle.std.proofs.Common.{◌≡◌, ℕ, zero, suc, ◌+◌, ◌<◌, Bool, true, false, not, ◌==◌, nat_lt, cond, List, [], ◌∷◌, length, get_or, Option, Some, None, Ok, Err, unwrap_or, inl, inr, refl, sym, ap, subst, ◌∙◌, arith}
+use Rattle.std.proofs.Common.{◌≡◌, ℕ, zero, suc, ◌+◌, ◌<◌, Bool, true, false, not, ◌==◌, nat_lt, cond, List, [], ◌∷◌, length, get_or, Some, Ok, Err, inl, inr, refl, sym, ap, subst, ◌∙◌, arith}
 use Rattle.std.proofs.lemmas.Bool.{cases_lt, eq-eqb, le-ltb}
 use Rattle.vb_disk.specs.declared.cell.Cell.{Cell}
-use Rattle.vb_disk.specs.Cells.{candidate_at, candidates, read_of, synced_cell}
+use Rattle.vb_disk.specs.Cells.{candidates, read_of}
 use Rattle.vb_disk.specs.Crashes.{CellMayCrashTo, MayCrashTo}
 use Rattle.vb_disk.specs.States.{DiskState, read_at}
 use Rattle.vb_disk.proofs.StatesOf.{same_state}

@@ -20,6 +20,8 @@ use Rattle.vb_store.specs.declared.mount_parts.Claimed.{Claimed}
 use Rattle.vb_store.specs.declared.mount_stage.MountStage.{MountStage}
 use Rattle.vb_store.specs.declared.mount_stage.MountStage.TheVariants.{ReadHome, ReadMap, Finish, Refused}
 use Rattle.vb_store.specs.Mounting.{IsDue}
+use Rattle.vb_store.specs.declared.mount_parts.Refusal.{Refusal}
+use Rattle.vb_store.proofs.Damages.{Differs}
 use Rattle.vb_store.specs.MountStages.{HasEnded, IsNoFault, IsStopped, StandsAfter, Stops, due_place, home_of, metadata_at, rest_of, rest_of_homes, rest_of_index, rest_of_table, rest_of_map, rest_of_maps}
 use Rattle.vb_store.specs.NodesRead.{is_retried}
 
@@ -61,7 +63,7 @@ rest-refused reads head slots m ms nodes claims why is =
     ap (λ (r : Result Mapped RecoverError). and_then (and_then r more) (λ end. Ok (metadata_at head end))) first
 
 -- the next one of some map pages
-drop-next : (maps : List MapPage) (n : ℕ) (m : MapPage) → n < length maps → m ≡ get_or maps n m → drop n maps ≡ m ∷ drop (n + 1) maps
+pub drop-next : (maps : List MapPage) (n : ℕ) (m : MapPage) → n < length maps → m ≡ get_or maps n m → drop n maps ≡ m ∷ drop (n + 1) maps
 drop-next maps n m within is = at_drop_more (λ (l : List MapPage). l) maps n m within ∙ ap (λ (x : MapPage). x ∷ drop (n + 1) maps) (sym is)
 
 -- its place was claimed
@@ -263,22 +265,28 @@ popped (Some item) old new front node some none is =
     ∙ take-append-le (length front) front (node ∷ []) (omega arith) ∙ take_all (length front) front (omega arith)
 
 -- an answer that is due is no fault of the disk
-pub due-no_fault : {T : Type 0} (due : Result T RecoverError) (error : RecoverError) → IsDue due (Err error) → IsNoFault error
-due-no_fault due (NotAStore place) is = tt
-due-no_fault due (Damaged place kept found) is = tt
-due-no_fault due (Unfit place why) is = tt
-due-no_fault due Rebuilding is = tt
-due-no_fault due DiskFault is = is
-due-no_fault due Memory is = tt
+pub due-no_fault : {T : Type 0} (due : Result T RecoverError) (error : RecoverError) → Differs due → IsDue due (Err error) → IsNoFault error
+due-no_fault due (NotAStore place) differs is = tt
+due-no_fault due (Damaged place kept found) differs is = differs place kept found is
+due-no_fault due (Unfit place why) differs is = tt
+due-no_fault due Rebuilding differs is = tt
+due-no_fault due DiskFault differs is = is
+due-no_fault due Memory differs is = tt
+
+refusal-no_fault : (r : Refusal) (error : RecoverError) → r.error ≡ error → IsNoFault error
+refusal-no_fault r (NotAStore place) is = tt
+refusal-no_fault r (Damaged place kept found) is = r.differ place kept found is
+refusal-no_fault r (Unfit place why) is = tt
+refusal-no_fault r Rebuilding is = tt
+refusal-no_fault r DiskFault is = absurd (let e : true ≡ false = sym (ap is_retried is) ∙ r.ends in cc e)
+refusal-no_fault r Memory is = tt
 
 -- nor is one that ends the mount
-pub ends-no_fault : (error : RecoverError) → is_retried error ≡ false → IsNoFault error
-ends-no_fault (NotAStore place) ends = tt
-ends-no_fault (Damaged place kept found) ends = tt
-ends-no_fault (Unfit place why) ends = tt
-ends-no_fault Rebuilding ends = tt
-ends-no_fault DiskFault ends = absurd (cc ends)
-ends-no_fault Memory ends = absurd (cc ends)
+pub ends-no_fault : (after : MountStage) (error : RecoverError) → HasEnded after error → IsNoFault error
+ends-no_fault (ReadHome h) error ended = absurd ended
+ends-no_fault (ReadMap m) error ended = absurd ended
+ends-no_fault (Finish w) error ended = absurd ended
+ends-no_fault (Refused r) error ended = refusal-no_fault r error ended
 
 -- what an answer's error is
 pub err-at : {T : Type 0} (P : RecoverError → Type 0) (r : Result T RecoverError) (error : RecoverError) → r ≡ Err error → P error → IfErr r P

@@ -1,6 +1,5 @@
 -- How many places the references of an index name.
-use Rattle.std.proofs.Common.{◌≡◌, ◌↔◌, ℕ, suc, ◌+◌, ◌≤◌, Bool, true, false, cond, List, [], ◌∷◌, length, Option, Some, None, unwrap_or, refl, ap, subst, arith, length-append}
-use Rattle.std.specs.List.{Contains}
+use Rattle.std.proofs.Common.{◌≡◌, ℕ, suc, ◌≤◌, Bool, true, false, cond, List, [], ◌∷◌, length, Option, Some, None, unwrap_or, refl, sym, ap, ◌∙◌, arith, length-append}
 use Rattle.std.proofs.lemmas.List.{length-map}
 use Rattle.std.proofs.lemmas.List.Sums.{sum_by-cons}
 use Rattle.vb_block.specs.declared.digest.Ref.{Ref}
@@ -8,9 +7,10 @@ use Rattle.vb_head.specs.declared.head.Head.{Head}
 use Rattle.vb_index.specs.declared.held.Held.{Held}
 use Rattle.vb_index.specs.Indexes.{IndexState}
 use Rattle.vb_index.specs.Nodes.{held_at, is_file_node, pages_in, pages_of_slot, refs_of}
+use Rattle.vb_tree.specs.declared.tree.Limits.{Limits}
 use Rattle.vb_tree.specs.Trees.{data_pages_of, map_pages_of}
-use Rattle.vb_space.specs.Spaces.{DataPlaces, IsCommitted, committed_count}
-use Rattle.vb_store.specs.Views.{CanView, IsView, data_start, places_in, places_of, places_of_slot}
+use Rattle.vb_space.specs.Spaces.{DataPlaces}
+use Rattle.vb_store.specs.Views.{CanView, IsSpaceOf, IsView, limits_of, places_in, places_of, places_of_slot}
 
 -- a slot has a reference for each of its pages, and for each of its map pages
 abbrev pub IsReferred : Option Held → Type 0
@@ -34,12 +34,17 @@ places-few (o ∷ nodes) referred =
     omega (arith, length-append (places_of_slot o) (places_in nodes), sum_by-cons pages_of_slot o nodes, slot_places o (referred 0), rest)
 
 -- a view of a store at rest, with the space that its references take
-pub IsView-of : (head : Head) (index : IndexState) (space : DataPlaces) (used : List ℕ) → CanView head index → length index.nodes ≡ head.nodes → used ≡ places_in index.nodes → space.first ≡ data_start head → data_start head + length space.users ≡ head.blocks → ((place : ℕ) → IsCommitted space place ↔ Contains used place) → committed_count space ≤ length used → IsView (record { head = head; index = index; space = space })
-IsView-of head index space used can slots is first end committed counted = record {
+pub IsView-of : (head : Head) (index : IndexState) (space : DataPlaces) → CanView head index → length index.nodes ≡ head.nodes → IsSpaceOf head index space → IsView (record { head = head; index = index; space = space })
+IsView-of head index space can slots is = record {
   can = can;
   slots = slots;
-  first = first;
-  end = omega arith;
-  few = omega (arith, ap length is, places-few index.nodes (λ slot held there. (can.maps slot held there, can.refs slot held there)));
-  committed = λ place. let P : List ℕ → Type 0 = λ l. IsCommitted space place ↔ Contains l place in subst P is (committed place);
+  first = is.first;
+  end = omega (arith, is.first, is.end);
+  few = omega (arith, is.few, can.pages, places-few index.nodes (λ slot held there. (can.maps slot held there, can.refs slot held there)));
+  committed = is.committed;
 }
+
+-- an index under a head's limits has as many slots
+pub slots_of : (head : Head) (shown index : IndexState) → shown.limits.nodes ≡ length shown.nodes → shown ≡ index → index.limits ≡ limits_of head → length index.nodes ≡ head.nodes
+slots_of head shown index kept is limits =
+    ap (λ (s : IndexState). length s.nodes) (sym is) ∙ sym kept ∙ ap (λ (s : IndexState). s.limits.nodes) is ∙ ap (λ (l : Limits). l.nodes) limits

@@ -55,7 +55,7 @@ new_from true true a b is = absurd (cc is)
 new_from true false a b is = refl
 new_from false off a b is = absurd (cc is)
 
-not_false : (b : Bool) → not b ≡ false → b ≡ true
+pub not_false : (b : Bool) → not b ≡ false → b ≡ true
 not_false true is = refl
 not_false false is = absurd (cc is)
 

@@ -33,7 +33,8 @@ use Rattle.vb_nodes.specs.Claiming.{ClaimsState, claim_answer, with_claim}
 use Rattle.vb_tree.specs.declared.tree.Limits.{Limits}
 use Rattle.vb_index.specs.Changes.{with_ref}
 use Rattle.vb_store.specs.Views.{limits_of}
-use Rattle.vb_store.specs.Metadata.{Mapped, Metadata, Standing, after_claim, after_page, all_claimed_by, and_then, block_of, claimed_by, claims_or_refusal, head_place, image_fault, images_fault, index_or_refusal, journal_fault, known_below, map_checked, mapped_from, maps_in, maps_left, maps_of, metadata_from, metadata_of, no_claims, node_checked, node_or_refusal, nodes_left, refuse, unless, with_ref_at, with_refs_at}
+use Rattle.vb_journal.specs.Notes.{head_place}
+use Rattle.vb_store.specs.Metadata.{Mapped, Metadata, Standing, after_claim, after_page, all_claimed_by, and_then, block_of, claimed_by, claims_or_refusal, image_fault, images_fault, index_or_refusal, journal_fault, known_below, map_checked, mapped_from, maps_in, maps_left, maps_of, metadata_from, metadata_of, no_claims, node_checked, node_or_refusal, nodes_left, refuse, unless, with_ref_at, with_refs_at}
 use Rattle.vb_store.specs.declared.map_page.MapPage.{MapPage}
 use Rattle.vb_store.specs.Sameness.{IsSameStore}
 use Rattle.vb_store.proofs.SameJournals.{IsNode, images_fault-none, nodes_of_images, or_refusal-none, pages_same}
@@ -242,7 +243,7 @@ recovers_as reads (Err e) r is = absurd (cc is)
 recovers_as reads (Ok head) r is = recovers_from reads head (journal_refusal reads head) r refl is
 
 -- the node in a page that was read
-node_from_checked : (place : ℕ) (r : Result Node NodeError) (node : Node) → node_or_refusal place r ≡ Ok node → r ≡ Ok node
+pub node_from_checked : (place : ℕ) (r : Result Node NodeError) (node : Node) → node_or_refusal place r ≡ Ok node → r ≡ Ok node
 node_from_checked place (Ok n) node is = cc is
 node_from_checked place (Err (Unsealed kept found)) node is = absurd (cc is)
 node_from_checked place (Err (Wrong why)) node is = absurd (cc is)

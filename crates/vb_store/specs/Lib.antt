@@ -1,11 +1,17 @@
 pub mod Clear
 pub mod EmptyStores
 pub mod Formats
+pub mod LentImages
 pub mod Maps
 pub mod Metadata
+pub mod MountLends
+pub mod MountLists
 pub mod MountStages
 pub mod Mounting
+pub mod Mounts
+pub mod Namings
 pub mod NodesRead
+pub mod Readings
 pub mod Recovered
 pub mod RecoveredStores
 pub mod Runs

@@ -1,5 +1,5 @@
 -- Metadata: what the blocks of a store say, read at once as tables, or the first thing that is wrong with them.
-use Rattle.std.specs.Prelude.{ℕ, zero, suc, ◌+◌, ◌-◌, min, ◌==◌, if◌then◌else◌, Bool, true, false, not, List, [], ◌∷◌, ◌++◌, length, map, replicate, slice_set, Option, Some, None, Result, Ok, Err}
+use Rattle.std.specs.Prelude.{ℕ, zero, suc, ◌+◌, ◌-◌, min, ◌==◌, if◌then◌else◌, Bool, true, false, not, List, [], ◌∷◌, ◌++◌, length, replicate, slice_set, Option, Some, None, Result, Ok, Err}
 use Rattle.std.specs.List.{flat_map}
 use Rattle.std.specs.Option.{option_map}
 use Rattle.std.specs.Result.{result_err}
@@ -11,12 +11,11 @@ use Rattle.vb_block.specs.declared.why.Why.{Why}
 use Rattle.vb_block.specs.declared.why.Why.TheVariants.{Slot, Pages}
 use Rattle.vb_disk.specs.Misses.{is_sealed}
 use Rattle.vb_head.specs.declared.head.Head.{Head}
-use Rattle.vb_head.specs.Heads.{head_read}
 use Rattle.vb_journal.specs.declared.recover_error.RecoverError.{RecoverError}
 use Rattle.vb_journal.specs.declared.recover_error.RecoverError.TheVariants.{Damaged, Unfit, Memory}
 use Rattle.vb_journal.specs.Images.{slot_of}
-use Rattle.vb_journal.specs.Recoveries.{choice_of, greater_place, image_refusal, journal_of, journal_place, node_image, or_refusal, settled_head}
-use Rattle.vb_journal.specs.Shown.{good_of}
+use Rattle.vb_journal.specs.Notes.{head_place, journal_slots}
+use Rattle.vb_journal.specs.Recoveries.{choice_of, image_refusal, journal_of, journal_place, node_image, or_refusal, settled_head}
 use Rattle.vb_inode.specs.declared.node.Node.{Node}
 use Rattle.vb_inode.specs.declared.errors.NodeError.{NodeError}
 use Rattle.vb_inode.specs.declared.errors.NodeError.TheVariants.{Unsealed, Wrong, Memory as NoMemoryForNode}
@@ -92,10 +91,6 @@ place_over (named ∷ slots) place slot home = place_over slots (place + 1) slot
 -- so for a journal of these slots, in a store of so many nodes
 abbrev pub block_place : List ℕ → ℕ → ℕ → ℕ
 block_place slots nodes slot = place_over slots (2 + nodes) slot (2 + slot)
-
--- the slots of the journal's images
-abbrev pub journal_slots : (ℕ → List ℕ) → Head → List ℕ
-journal_slots reads head = map slot_of (journal_of reads head)
 
 -- the block of a slot: what stands at its home, or the image of the journal that was put over it
 abbrev pub block_of : (ℕ → List ℕ) → Head → ℕ → Standing
@@ -216,10 +211,6 @@ maps_left reads places (m ∷ ms) known =
 pub record Metadata : Type 0 where
   pub head : Head
   pub held : List (Option Held)
-
--- the place of the head that counts
-abbrev pub head_place : (ℕ → List ℕ) → ℕ
-head_place reads = greater_place (good_of (head_read (reads 0))) (good_of (head_read (reads 1)))
 
 -- what is known of an index once its map pages are read
 abbrev pub mapped_from : (ℕ → List ℕ) → Head → (ℕ → ℕ) → IndexState → Result Mapped RecoverError

@@ -1,5 +1,5 @@
 -- How far a mount has come: what is left of its answer, and which call is due.
-use Rattle.std.specs.Prelude.{◌≡◌, ℕ, ◌+◌, ◌-◌, Bool, true, false, List, length, drop, Option, Some, None, Result, Ok, Err}
+use Rattle.std.specs.Prelude.{◌≡◌, ◌≢◌, ℕ, ◌+◌, ◌-◌, Bool, true, false, List, length, drop, Option, Some, None, Result, Ok, Err}
 use Rattle.vb_disk.specs.States.{DiskState, read_at}
 use Rattle.vb_head.specs.declared.head.Head.{Head}
 use Rattle.vb_inode.specs.declared.node.Node.{Node}
@@ -99,10 +99,10 @@ Stops false before error after = HasEnded after error
 abbrev pub IsStopped : MountStage → RecoverError → MountStage → Type 0
 IsStopped before error after = Stops (is_retried error) before error after
 
--- no call of the disk failed
+-- no call of the disk failed, and damage has two digests that differ
 abbrev pub IsNoFault : RecoverError → Type 0
 IsNoFault (NotAStore place) = Unit {0}
-IsNoFault (Damaged place kept found) = Unit {0}
+IsNoFault (Damaged place kept found) = kept ≢ found
 IsNoFault (Unfit place why) = Unit {0}
 IsNoFault Rebuilding = Unit {0}
 IsNoFault DiskFault = ⊥

@@ -11,6 +11,7 @@ use Rattle.vb_store.specs.MountStages.{home_of}
 use Rattle.vb_store.specs.Maps.{IsMapPage, IsOfFile}
 use Rattle.vb_store.specs.Metadata.{maps_in, no_claims, node_checked}
 use Rattle.vb_store.specs.Mounting.{IsDue}
+use Rattle.vb_store.specs.Namings.{AreBlanksNamed, AreNamedOnce, IsIndexOf}
 
 -- a tree, none of whose data places was named, and its map pages
 pub record IsSurvey (head : Head) (due : Result IndexState RecoverError) (s : Survey) : Type 0 where
@@ -19,6 +20,9 @@ pub record IsSurvey (head : Head) (due : Result IndexState RecoverError) (s : Su
   pub maps : s.maps.items ≡ maps_in s.index.nodes
   pub each : All IsMapPage s.maps.items
   pub files : All (IsOfFile s.index.nodes) s.maps.items
+  pub of_head : IsIndexOf head s.index
+  pub once : AreNamedOnce s.index.nodes s.claims s.maps.items
+  pub blanks : AreBlanksNamed s.index.nodes s.maps.items
 
 -- the answer is such a tree, or the refusal that is due, or memory ran out
 abbrev pub IsSurveyed : Head → Result IndexState RecoverError → Result Survey RecoverError → Type 0

@@ -8,7 +8,7 @@ use Rattle.vb_head.specs.Heads.{IsInRange}
 use Rattle.vb_index.specs.declared.held.Held.{Held}
 use Rattle.vb_index.specs.Indexes.{IndexState}
 use Rattle.vb_index.specs.Nodes.{held_at, pages_in, refs_of, root_held}
-use Rattle.vb_space.specs.Spaces.{DataPlaces, IsCommitted, committed_count}
+use Rattle.vb_space.specs.Spaces.{DataPlaces, IsCommitted, committed_count, next_count}
 use Rattle.vb_tree.specs.declared.tree.Limits.{Limits}
 use Rattle.vb_tree.specs.Trees.{data_pages_of, map_pages_of}
 
@@ -51,6 +51,15 @@ pub record CanView (head : Head) (index : IndexState) : Type 0 where
   pub above : All (λ place. data_start head ≤ place) (places_in index.nodes)
   pub below : All (λ place. place < head.blocks) (places_in index.nodes)
   pub once : (place : ℕ) → count_by (λ p. p == place) (places_in index.nodes) ≤ 1
+
+-- the data places of a store at rest: the committed view uses exactly those that the index's references name, and no
+-- next view is begun
+pub record IsSpaceOf (head : Head) (index : IndexState) (s : DataPlaces) : Type 0 where
+  pub first : s.first ≡ data_start head
+  pub end : data_start head + length s.users ≡ head.blocks
+  pub committed : (place : ℕ) → IsCommitted s place ↔ Contains (places_in index.nodes) place
+  pub few : committed_count s ≤ length (places_in index.nodes)
+  pub none_begun : next_count s ≡ 0
 
 -- the index of a store without entries: a root, and no node in the other slots
 abbrev pub empty_index : Head → IndexState

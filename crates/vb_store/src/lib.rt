@@ -2,16 +2,21 @@
 #![tactic(auto)]
 
 mod clear_disks;
+mod clear_mounts;
 mod empty_stores;
 mod format_error;
 mod formatting;
 mod map_page;
 mod map_reads;
+mod mount;
 mod mount_homes;
 mod mount_maps;
 mod mount_parts;
+mod mount_phase;
+mod mount_reading;
 mod mount_reads;
 mod mount_stage;
+mod mount_steps;
 mod new_homes;
 mod node_blocks;
 mod recovered_stores;
@@ -19,19 +24,26 @@ mod same_stores;
 mod surveys;
 mod used_places;
 mod view;
+mod whole;
 
 pub use clear_disks::a_crash_leaves_a_clear_disk;
+pub use clear_mounts::{a_mount_leaves_a_clear_disk, a_sync_leaves_a_clear_disk};
 pub use empty_stores::{
     a_format_leaves_an_empty_store, an_empty_store_can_be_viewed, an_empty_store_is_shown,
     an_empty_store_recovers_the_empty_tree,
 };
 pub use format_error::FormatError;
 pub use formatting::format;
+pub use mount::Mount;
 pub use recovered_stores::{
     each_crash_of_a_mount_leaves_the_metadata, homes_tell_what_the_blocks_told,
 };
 pub use same_stores::{the_same_pages_recover_the_same_tree, the_same_store_has_the_same_metadata};
 pub use view::{Mounted, View};
 
+#[cfg(test)]
+mod forged_tests;
+#[cfg(test)]
+mod mount_tests;
 #[cfg(test)]
 mod tests;

@@ -1,8 +1,9 @@
 // The steps of a mount that read homes.
-ghost use Rattle.std.specs.Prelude.{◌≡◌, ◌+◌, ◌≤◌, ◌++◌, [], ◌∷◌, ℕ, List, length, vec_len, IfErr};
+ghost use Rattle.std.specs.Prelude.{◌≡◌, ◌+◌, ◌≤◌, ◌++◌, [], ◌∷◌, ℕ, List, length, vec_len, IfErr, OnOk};
 ghost use Rattle.vb_head.specs.Heads.{IsHead};
 ghost use Rattle.vb_inode.specs.declared.node.Node.{Node as TheNode};
 ghost use Rattle.vb_inode.specs.Reading.{IsNodeOf};
+ghost use Rattle.vb_store.specs.MountLists.{ComesAfter, ReadsFirst};
 ghost use Rattle.vb_store.specs.MountStages.{blocks_of, rest_of, IsNoFault, IsSameAnswer, StandsAfter};
 ghost use Rattle.vb_store.specs.NodesRead.{AreRead};
 ghost use Rattle.vb_store.specs.Surveys.{IsHomeRead};
@@ -21,6 +22,9 @@ use vb_journal::RecoverError;
 /// Takes in the home that was read.
 pub(crate) fn take_home(alloc: Global, homes: Homes, page: &Page) -> Stepped
     ensures rest { IsSameAnswer (2 + length homes.nodes) page.now (MountStage.ReadHome homes) result.0 }
+    ensures list { (reads : ℕ → List ℕ) → reads (2 + length homes.nodes) ≡ page.now
+        → ReadsFirst reads (2 + length homes.nodes) (MountStage.ReadHome homes) result.0 result.1 }
+    ensures after { OnOk result.1 (ComesAfter (2 + length homes.nodes) result.0) }
     ensures blocks { blocks_of result.0 ≤ homes.head.blocks }
     ensures error { IfErr result.1 (StandsAfter (MountStage.ReadHome homes) result.0) }
     ensures no_fault { IfErr result.1 IsNoFault }
@@ -37,6 +41,9 @@ fn take_node(alloc: Global, mut homes: Homes, node: Node) -> Stepped
     requires of_store { IsNodeOf homes.head.nodes node }
     requires own_slot { node.slot ≡ length homes.nodes }
     ensures rest { (reads : ℕ → List ℕ) → IsHomeRead reads homes node → rest_of reads result.0 ≡ rest_of reads (MountStage.ReadHome homes) }
+    ensures list { (reads : ℕ → List ℕ) → IsHomeRead reads homes node
+        → ReadsFirst reads (2 + length homes.nodes) (MountStage.ReadHome homes) result.0 result.1 }
+    ensures after { OnOk result.1 (ComesAfter (2 + length homes.nodes) result.0) }
     ensures blocks { blocks_of result.0 ≤ homes.head.blocks }
     ensures error { IfErr result.1 (StandsAfter (MountStage.ReadHome homes) result.0) }
     ensures no_fault { IfErr result.1 IsNoFault }
@@ -56,6 +63,9 @@ fn take_last(alloc: Global, homes: Homes, node: Node) -> Stepped
     requires own_slot { node.slot ≡ length homes.nodes }
     requires last { length homes.nodes + 1 ≡ homes.head.nodes }
     ensures rest { (reads : ℕ → List ℕ) → IsHomeRead reads homes node → rest_of reads result.0 ≡ rest_of reads (MountStage.ReadHome homes) }
+    ensures list { (reads : ℕ → List ℕ) → IsHomeRead reads homes node
+        → ReadsFirst reads (2 + length homes.nodes) (MountStage.ReadHome homes) result.0 result.1 }
+    ensures after { OnOk result.1 (ComesAfter (2 + length homes.nodes) result.0) }
     ensures blocks { blocks_of result.0 ≤ homes.head.blocks }
     ensures error { IfErr result.1 (StandsAfter (MountStage.ReadHome homes) result.0) }
     ensures no_fault { IfErr result.1 IsNoFault }

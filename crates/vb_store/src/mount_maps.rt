@@ -1,9 +1,11 @@
 // The steps of a mount that read map pages.
-ghost use Rattle.std.specs.Prelude.{◌≡◌, ◌<◌, ◌≤◌, ℕ, List, false, drop, length, Some, Ok, Err, IfErr};
+ghost use Rattle.std.specs.Prelude.{◌≡◌, ◌≢◌, ◌<◌, ◌≤◌, ℕ, List, [], false, drop, length, Some, Ok, Err, IfErr, OnOk};
 ghost use Rattle.vb_disk.specs.Causes.{HasCause};
 ghost use Rattle.vb_disk.specs.States.{DiskState, read_at};
 ghost use Rattle.vb_store.specs.Metadata.{map_checked};
+ghost use Rattle.vb_store.specs.MountLists.{map_places, places_left, ComesAfter, ReadsFirst};
 ghost use Rattle.vb_store.specs.MountStages.{blocks_of, due_place, rest_of, rest_of_maps, HasEnded, IsNoFault, IsSameAnswer, IsStopped, StandsAfter};
+ghost use Rattle.vb_store.specs.Namings.{AreBlanksNamed};
 ghost use Rattle.vb_store.specs.NodesRead.{is_retried};
 
 use crate::map_reads::{check_map, claim_all, set_refs};
@@ -29,7 +31,7 @@ pub(crate) fn refused(refusal: Refusal) -> Stepped
 }
 
 /// Whether the same call is made again after it.
-fn is_retried(error: &RecoverError) -> bool
+pub(crate) fn is_retried(error: &RecoverError) -> bool
     ensures { result ≡ is_retried error.now }
 {
     matches!(error, RecoverError::DiskFault | RecoverError::Memory)
@@ -37,6 +39,7 @@ fn is_retried(error: &RecoverError) -> bool
 
 /// A stage after an error.
 pub(crate) fn stopped(stage: MountStage, error: RecoverError) -> Stepped
+    requires { (place : ℕ) (kept found : List ℕ) → error ≡ RecoverError.Damaged place kept found → kept ≢ found }
     ensures stage { IsStopped stage error result.0 }
     ensures error { result.1 ≡ Err error }
 {
@@ -49,10 +52,13 @@ pub(crate) fn stopped(stage: MountStage, error: RecoverError) -> Stepped
 
 /// Goes on with the next map page of a tree, after a read of this place.
 pub(crate) fn go_on(mut tree: Tree, last: u32) -> Stepped
-    requires { last < tree.head.blocks }
+    requires within { last < tree.head.blocks }
+    requires blanks { AreBlanksNamed tree.index.nodes (drop tree.next tree.maps.items) }
     ensures rest { (reads : ℕ → List ℕ) → rest_of reads result.0
         ≡ rest_of_maps reads tree.head tree.slots.items (drop tree.next tree.maps.items)
         (record { slots = tree.index.nodes; claims = tree.claims }) }
+    ensures list { OnOk result.1 ((reads : ℕ → List ℕ) → places_left reads result.0 ≡ map_places (drop tree.next tree.maps.items)) }
+    ensures after { OnOk result.1 (ComesAfter last result.0) }
     ensures blocks { blocks_of result.0 ≤ tree.head.blocks }
     ensures error { IfErr result.1 (λ error. HasEnded result.0 error × (is_retried error ≡ false)) }
 {
@@ -76,8 +82,12 @@ pub(crate) fn go_on(mut tree: Tree, last: u32) -> Stepped
 
 /// All of a tree was read, and this place last.
 fn whole(tree: Tree, place: u32) -> Stepped
-    requires { place < tree.head.blocks }
+    requires within { place < tree.head.blocks }
+    requires end { length tree.maps.items ≤ tree.next }
+    requires blanks { AreBlanksNamed tree.index.nodes (drop tree.next tree.maps.items) }
     ensures rest { (reads : ℕ → List ℕ) → rest_of reads result.0 ≡ Ok (record { head = tree.head; held = tree.index.nodes }) }
+    ensures list { (reads : ℕ → List ℕ) → places_left reads result.0 ≡ [] }
+    ensures after { ComesAfter place result.0 }
     ensures blocks { blocks_of result.0 ≤ tree.head.blocks }
     ensures ok { result.1 ≡ Ok tt }
 {
@@ -95,6 +105,9 @@ fn whole(tree: Tree, place: u32) -> Stepped
 /// Takes in the map page that was read.
 pub(crate) fn take_map(alloc: Global, claimed: Claimed, page: &Page) -> Stepped
     ensures rest { IsSameAnswer claimed.map.reference.place page.now (MountStage.ReadMap claimed) result.0 }
+    ensures list { (reads : ℕ → List ℕ) → reads claimed.map.reference.place ≡ page.now
+        → ReadsFirst reads claimed.map.reference.place (MountStage.ReadMap claimed) result.0 result.1 }
+    ensures after { OnOk result.1 (ComesAfter claimed.map.reference.place result.0) }
     ensures blocks { blocks_of result.0 ≤ claimed.tree.head.blocks }
     ensures error { IfErr result.1 (StandsAfter (MountStage.ReadMap claimed) result.0) }
     ensures no_fault { IfErr result.1 IsNoFault }
@@ -110,6 +123,8 @@ fn take_refs(claimed: Claimed, refs: &Refs) -> Stepped
     requires { length refs.now ≡ claimed.map.count }
     ensures rest { (reads : ℕ → List ℕ) → map_checked claimed.map (reads claimed.map.reference.place) ≡ Ok refs.now
         → rest_of reads result.0 ≡ rest_of reads (MountStage.ReadMap claimed) }
+    ensures list { (reads : ℕ → List ℕ) → ReadsFirst reads claimed.map.reference.place (MountStage.ReadMap claimed) result.0 result.1 }
+    ensures after { OnOk result.1 (ComesAfter claimed.map.reference.place result.0) }
     ensures blocks { blocks_of result.0 ≤ claimed.tree.head.blocks }
     ensures error { IfErr result.1 (λ error. HasEnded result.0 error × (is_retried error ≡ false)) }
 {

@@ -1,9 +1,12 @@
 // What a mount knows while it reads nodes and map pages.
-ghost use Rattle.std.specs.Prelude.{◌≡◌, ◌+◌, ◌<◌, ◌≤◌, false, length, vec_len, All};
+ghost use Rattle.std.specs.Prelude.{◌≡◌, ◌≢◌, ◌+◌, ◌∷◌, ◌<◌, ◌≤◌, ℕ, List, false, drop, length, vec_len, All};
 ghost use Rattle.vb_head.specs.Heads.{IsHead};
 ghost use Rattle.vb_head.specs.declared.head.State.TheVariants.{Closed};
+ghost use Rattle.vb_journal.specs.declared.recover_error.RecoverError.TheVariants.{Damaged};
 ghost use Rattle.vb_store.specs.Maps.{IsMapPage, IsOfFile};
+ghost use Rattle.vb_store.specs.Namings.{AreBlanksNamed, AreNamedOnce, IsIndexOf};
 ghost use Rattle.vb_store.specs.NodesRead.{AreRead, is_retried};
+ghost use Rattle.vb_store.specs.Views.{CanView, data_start};
 
 use crate::map_page::MapPage;
 use vb_head::Head;
@@ -54,7 +57,10 @@ pub(crate) struct Tree {
     ghost few: { vec_len slots ≤ 65536 },
     ghost each: { All IsMapPage maps.items },
     ghost files: { All (IsOfFile index.nodes) maps.items },
+    ghost first: { claims.first ≡ data_start head },
     ghost range: { claims.first + length claims.taken ≡ head.blocks },
+    ghost of_head: { IsIndexOf head index },
+    ghost once: { AreNamedOnce index.nodes claims (drop next maps.items) },
 }
 
 /// A tree, and a map page of it whose place is claimed, and which is to be read.
@@ -65,6 +71,7 @@ pub(crate) struct Claimed {
     ghost is: { IsMapPage map },
     ghost file: { IsOfFile tree.index.nodes map },
     ghost within: { map.reference.place < tree.head.blocks },
+    ghost blanks: { AreBlanksNamed tree.index.nodes (map ∷ drop tree.next tree.maps.items) },
 }
 
 /// A tree all of whose blocks were read. There was no memory yet for its view.
@@ -75,11 +82,14 @@ pub(crate) struct Whole {
     /// The place that was read last.
     pub(crate) place: u32,
     ghost within: { place < head.blocks },
+    ghost can: { CanView head index },
+    ghost slots: { length index.nodes ≡ head.nodes },
 }
 
-/// Why a mount ended, and no fault.
+/// Why a mount ended, and no fault. Damage has two digests that differ.
 #[derive(Clone, Copy)]
 pub(crate) struct Refusal {
     pub(crate) error: RecoverError,
     ghost ends: { is_retried error ≡ false },
+    ghost differ: { (place : ℕ) (kept found : List ℕ) → error ≡ Damaged place kept found → kept ≢ found },
 }

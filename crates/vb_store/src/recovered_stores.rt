@@ -7,7 +7,8 @@ ghost use Rattle.vb_journal.specs.declared.recover_stage.RecoverStage.{RecoverSt
 ghost use Rattle.vb_journal.specs.Interruptions.{IsSteadyAt};
 ghost use Rattle.vb_journal.specs.Outcomes.{reads_of};
 ghost use Rattle.vb_journal.specs.Recovering.{IsRecovering};
-ghost use Rattle.vb_store.specs.Metadata.{Metadata, head_place, journal_slots};
+ghost use Rattle.vb_journal.specs.Notes.{head_place, journal_slots};
+ghost use Rattle.vb_store.specs.Metadata.{Metadata};
 ghost use Rattle.vb_store.specs.MountStages.{rest_of_homes};
 ghost use Rattle.vb_store.specs.RecoveredStores.{metadata_on, IsSoundlyRecovered};
 

@@ -1,5 +1,6 @@
 // A disk in memory that is made a store.
-ghost use Rattle.std.specs.Prelude.{◌≡◌};
+ghost use Rattle.std.specs.Prelude.{◌≡◌, ◌≤◌};
+ghost use Rattle.vb_store.specs.Mounts.{blocks_of_mount, mount_phase};
 ghost use Rattle.vb_store.specs.Views.{empty_index, limits_of, CanView};
 
 use super::*;
@@ -9,9 +10,10 @@ use vb_block::{FolderId, Page};
 use vb_disk::{Disk, DiskError, MemoryDisk};
 use vb_head::{Head, HeadRead, State, read_head};
 use vb_index::{Index, Limits};
+use vb_journal::{Ahead, RecoverError};
 
 // The head of an empty store of 38 places and 16 nodes.
-fn small_head() -> Head
+pub(crate) fn small_head() -> Head
     ensures viewed { CanView result (empty_index result) }
     ensures limits { limits_of result ≡ record { pages = 2; nodes = 16 } }
 {
@@ -26,18 +28,64 @@ fn small_head() -> Head
 }
 
 // Makes a disk a store of 38 places and 16 nodes.
-fn format_small(alloc: Global, disk: &mut MemoryDisk) -> Result<(), FormatError> {
+pub(crate) fn format_small(alloc: Global, disk: &mut MemoryDisk) -> Result<(), FormatError> {
     format(alloc, disk, FolderId::of([7; 16]), 38, 16)
 }
 
 // What a copy of the head reads as.
-fn head_at<D: Disk>(alloc: Global, disk: &mut D, place: u32) -> Result<HeadRead, DiskError> {
+pub(crate) fn head_at<D: Disk>(
+    alloc: Global,
+    disk: &mut D,
+    place: u32,
+) -> Result<HeadRead, DiskError> {
+    let page = page_at(alloc, disk, place)?;
+    Ok(read_head(&page))
+}
+
+// A mount that was stopped, and the disk that it leaves.
+#[derive(Drop)]
+pub(crate) struct Stopped<D> {
+    pub(crate) error: Option<RecoverError>,
+    pub(crate) disk: D,
+}
+
+// Mounts a disk by at most so many steps, through faults.
+pub(crate) fn mount_for<D: Disk>(
+    alloc: Global,
+    disk: D,
+    count: u32,
+) -> Result<Mounted<D>, Stopped<D>> {
+    let mut mount = Mount::start(alloc, disk);
+    let mut error = None;
+    'steps: for _ in 0..count {
+        match mount.step() {
+            Ok(Ahead::Ready) => return Ok(mount.finish()),
+            Ok(Ahead::More) | Err(RecoverError::DiskFault) => {}
+            Err(refusal) => error = Some(refusal),
+        }
+    }
+    let disk = mount.into_disk();
+    Err(Stopped { error, disk })
+}
+
+// What stands at a place.
+pub(crate) fn page_at<D: Disk>(alloc: Global, disk: &mut D, place: u32) -> Result<Page, DiskError> {
     let mut page = Page::zero(alloc)?;
     if disk.size()? <= place {
         return Err(DiskError::Failed);
     }
     disk.read(place, &mut page)?;
-    Ok(read_head(&page))
+    Ok(page)
+}
+
+// Writes a place and makes a sync.
+pub(crate) fn put_page(disk: &mut MemoryDisk, place: u32, page: &Page) -> Result<(), Fail> {
+    if disk.size()? <= place {
+        return Err(Fail::from("no such place"));
+    }
+    disk.write(place, page)?;
+    disk.sync()?;
+    Ok(())
 }
 
 #[test]

@@ -1,5 +1,6 @@
 // The view of a store's committed state.
-ghost use Rattle.std.specs.Prelude.{◌≡◌, IfOk};
+ghost use Rattle.std.specs.Prelude.{◌≡◌, length, IfOk};
+ghost use Rattle.vb_store.specs.Views.{CanView, IsSpaceOf};
 
 use crate::used_places::used_places;
 use std::alloc::{AllocError, Global};
@@ -29,7 +30,7 @@ impl Model for View {
 
 impl View {
     ghost use Rattle.vb_space.specs.Spaces.{next_count};
-    ghost use Rattle.vb_store.specs.Views.{CanView, IsView};
+    ghost use Rattle.vb_store.specs.Views.{IsView};
 
     /// The view of a store at rest with this head, whose nodes the index has. No next view is begun.
     pub fn of(alloc: Global, head: Head, index: Index) -> Result<View, AllocError>
@@ -41,9 +42,21 @@ impl View {
         ensures view { IfOk result (λ view. IsView view) }
         ensures none_begun { IfOk result (λ view. next_count view.space ≡ 0) }
     {
-        let used = used_places(alloc, &index, head.nodes)?;
-        let space = Space::of(alloc, 2 + 2 * head.nodes, head.blocks, &used)?;
-        Ok(View { head, index, space })
+        let space = space_of(alloc, &head, &index)?;
+        Ok(View::with_space(head, index, space))
+    }
+
+    /// The view of a store at rest, whose data places these are.
+    pub(crate) fn with_space(head: Head, index: Index, space: Space) -> View
+        requires can { CanView head index }
+        requires slots { length index.nodes ≡ head.nodes }
+        requires space { IsSpaceOf head index space }
+        ensures head { result.head ≡ head }
+        ensures index { result.index ≡ index }
+        ensures space { result.space ≡ space }
+        ensures view { IsView result }
+    {
+        View { head, index, space }
     }
 
     /// The committed nodes, with the references of their pages.
@@ -61,6 +74,16 @@ impl View {
     {
         self.head
     }
+}
+
+/// The data places of a store at rest with this head, whose nodes the index has.
+pub(crate) fn space_of(alloc: Global, head: &Head, index: &Index) -> Result<Space, AllocError>
+    requires can { CanView head.now index.now }
+    requires slots { length index.now.nodes ≡ head.now.nodes }
+    ensures { IfOk result (λ space. IsSpaceOf head.now index.now space) }
+{
+    let used = used_places(alloc, index, head.nodes)?;
+    Space::of(alloc, 2 + 2 * head.nodes, head.blocks, &used)
 }
 
 /// A disk, and the view of the store that stands on it.

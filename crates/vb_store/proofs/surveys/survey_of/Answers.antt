@@ -4,7 +4,10 @@ use Rattle.vb_index.specs.declared.held.Held.{Held}
 use Rattle.vb_store.specs.declared.map_page.MapPage.{MapPage}
 use Rattle.vb_store.specs.Maps.{IsOfFile, maps_of_nodes}
 use Rattle.vb_store.specs.Metadata.{block_place, maps_in}
+use Rattle.vb_store.specs.Namings.{AreBlanksNamed, AreNamedOnce}
 use Rattle.vb_store.specs.Views.{limits_of}
+use Rattle.vb_nodes.specs.Claiming.{ClaimsState}
+use Rattle.vb_store.proofs.NamingsBegun.{AreBlanksNamed-made, AreNamedOnce-made, IsIndexOf-made}
 use Rattle.vb_store.proofs.Surveyed.{files_of_nodes, index-nodes, maps_in-held_of, maps_of_read}
 use Rattle.vb_store.proofs.surveys.survey_of.Goals as goal
 
@@ -24,4 +27,10 @@ returns c =
       each = c.in-Ok.ensures.each;
       files = subst (λ (l : List MapPage). All (IsOfFile c.in_ok-index.index.nodes) l) (sym c.in-Ok.ensures.maps)
           (subst (λ (slots : List (Option Held)). All (IsOfFile slots) (maps_of_nodes nodes)) held (files_of_nodes head.nodes nodes c.requires.read));
+      of_head = IsIndexOf-made head c.args.place (block_place c.args.slots.now head.nodes) nodes c.in_ok-index.index c.requires.all c.requires.read c.in_ok-index.ensures;
+      once = subst (λ (l : List MapPage). AreNamedOnce c.in_ok-index.index.nodes c.in-Ok-new.claims l) (sym maps)
+          (subst (λ (k : ClaimsState). AreNamedOnce c.in_ok-index.index.nodes k (maps_in c.in_ok-index.index.nodes)) (sym c.in-Ok-new.ensures.range)
+          (AreNamedOnce-made head c.args.place (block_place c.args.slots.now head.nodes) nodes c.in_ok-index.index c.in_ok-index.ensures));
+      blanks = subst (λ (l : List MapPage). AreBlanksNamed c.in_ok-index.index.nodes l) (sym maps)
+          (AreBlanksNamed-made head c.args.place (block_place c.args.slots.now head.nodes) nodes c.in_ok-index.index c.requires.read c.in_ok-index.ensures);
     }
