@@ -25,6 +25,8 @@ pub use vb_path::{Bytes, Path};
 pub use vb_tree::{Kind, Limits, Refusal};
 
 #[cfg(test)]
-mod rename_tests;
+mod change_tests;
+#[cfg(test)]
+mod size_tests;
 #[cfg(test)]
 mod tests;
