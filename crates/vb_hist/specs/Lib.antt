@@ -1,3 +1,4 @@
 pub mod Histories
 pub mod Legal
+pub mod Makers
 pub mod Quiet
