@@ -1,13 +1,20 @@
-// What "a fault only where the count rose" means, said once for every object of the outside.
+// Objects of the outside: what "a fault only where the count rose" means, and which calls of an object in memory
+// are to fail.
 #![tactic(auto)]
 
-ghost use Rattle.std.specs.Prelude.{◌≤◌};
-ghost use Rattle.vb_cause.specs.Faults.{HasRisen};
+mod failures;
 
-/// The count of faults after one more. At the end of its type it stands still.
-pub fn raised(faults: u64) -> u64
-    ensures rose { HasRisen faults result }
-    ensures kept { faults ≤ result }
+ghost use Rattle.std.specs.Prelude.{◌≡◌};
+ghost use Rattle.vb_cause.specs.Faults.{counted};
+
+pub use failures::{Failure, Failures};
+
+/// The count after one more. At the end of its type it stands still.
+pub fn raised(count: u64) -> u64
+    ensures { result ≡ counted count }
 {
-    faults.saturating_add(1)
+    count.saturating_add(1)
 }
+
+#[cfg(test)]
+mod tests;

@@ -1,6 +1,6 @@
 // Calls that are to fail, as a test or a schedule lists them.
-ghost use Rattle.std.specs.Prelude.{◌≡◌, List, [], map, OnOk, OnErr};
-ghost use Rattle.vb_failures.specs.Failing.{due_of, nearer, passed, with_failure};
+ghost use Rattle.std.specs.Prelude.{◌≡◌, ◌<◌, ◌≤◌, List, [], length, map, IsSome, OnOk, OnErr};
+ghost use Rattle.vb_cause.specs.Failing.{due_of, nearer, passed, with_failure};
 
 use std::alloc::{AllocError, Global};
 use std::marker::Model;
@@ -23,7 +23,7 @@ pub struct Failures<T> {
 
 impl<T> Model for Failures<T> {
     ghost use Rattle.std.specs.Prelude.{List};
-    ghost use Rattle.vb_failures.specs.declared.failures.Failure.{Failure};
+    ghost use Rattle.vb_cause.specs.declared.failures.Failure.{Failure};
 
     ghost Value = { List (Failure T) };
 
@@ -65,7 +65,9 @@ impl<T: Copy> Failures<T> {
 
     /// Lets a call pass: those listed for it are used up, and all others come one call nearer.
     pub fn pass(&mut self)
-        ensures { self.new ≡ passed self.old }
+        ensures passed { self.new ≡ passed self.old }
+        ensures kept { length self.new ≤ length self.old }
+        ensures used { IsSome (due_of self.old) → length self.new < length self.old }
     {
         self.items.retain(|failure| failure.nth > 1);
         bring_nearer(&mut self.items);

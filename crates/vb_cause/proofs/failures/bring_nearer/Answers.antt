@@ -1,7 +1,7 @@
 use Rattle.std.proofs.Common.{set, ℕ, ap, arith, ◌∙◌, ◌<◌, length}
 use Rattle.std.proofs.lemmas.List.Edits.{map_over_more}
-use Rattle.vb_failures.specs.Failing.{nearer}
-use Rattle.vb_failures.proofs.failures.bring_nearer.Goals as goal
+use Rattle.vb_cause.specs.Failing.{nearer}
+use Rattle.vb_cause.proofs.failures.bring_nearer.Goals as goal
 
 pub loop-i-preserved : goal.loop-i-preserved
 loop-i-preserved g c =

@@ -1,7 +1,7 @@
 -- Calls that are to fail, in the order in which they were listed.
 use Rattle.std.specs.Prelude.{ℕ, ◌-◌, nat_lt, ◌==◌, if◌then◌else◌, List, [], ◌∷◌, ◌++◌, map, Option, Some, None}
 use Rattle.std.specs.List.{filter}
-use Rattle.vb_failures.specs.declared.failures.Failure.{Failure}
+use Rattle.vb_cause.specs.declared.failures.Failure.{Failure}
 
 -- how the next call fails: the first that is listed for it counts
 abbrev pub due_of : {T : Type 0} → List (Failure T) → Option T

@@ -1,6 +1,6 @@
 use Rattle.std.proofs.Common.{◌≡◌, ◌++◌, map, take, drop}
-use Rattle.vb_failures.specs.Failing.{nearer}
-use Rattle.vb_failures.proofs.failures.bring_nearer.Given as goal
+use Rattle.vb_cause.specs.Failing.{nearer}
+use Rattle.vb_cause.proofs.failures.bring_nearer.Given as goal
 
 abbrev pub invariant-loop-i : goal.invariant-loop-i
 invariant-loop-i g l =
