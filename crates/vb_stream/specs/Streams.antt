@@ -1,5 +1,6 @@
 -- What one read or write does, and what many of them do in a row.
 use Rattle.std.specs.Prelude.{◌≡◌, ℕ, ◌<◌, ◌≤◌, Bool, false, List, [], ◌++◌, length, take, drop, Option, Some, Result, Ok, Err}
+use mathlib.Core.List.{IsPrefix}
 use Rattle.vb_stream.specs.declared.source.SourceFault.{SourceFault}
 use Rattle.vb_stream.specs.declared.whole.ReadError.{ReadError}
 use Rattle.vb_stream.specs.declared.sink.SinkError.{SinkError}
@@ -19,18 +20,18 @@ TakesPiece before piece (Ok n) written = written ≡ Some (before ++ take n piec
 TakesPiece before piece (Err Failed) written = (n : ℕ) × (n ≤ length piece) × (written ≡ Some (before ++ take n piece))
 TakesPiece before piece (Err Memory) written = written ≡ Some before
 
--- what was written is a front of the text, and what is left of it
-abbrev pub WritesFront : List ℕ → List ℕ → Option (List ℕ) → List ℕ → Type 0
-WritesFront before text written rest = (front : List ℕ) × (text ≡ front ++ rest) × (written ≡ Some (before ++ front))
+-- what was written is a front of the text
+abbrev pub WritesFront : List ℕ → List ℕ → Option (List ℕ) → Type 0
+WritesFront before text written = (front : List ℕ) × IsPrefix front text × (written ≡ Some (before ++ front))
 
 -- what was written is the whole text, or after an error a front of it
 abbrev pub WritesWhole : {A : Type 0} → List ℕ → List ℕ → Result A SinkError → Option (List ℕ) → Type 0
 WritesWhole before text (Ok done) written = written ≡ Some (before ++ text)
-WritesWhole before text (Err error) written = (rest : List ℕ) × WritesFront before text written rest
+WritesWhole before text (Err error) written = WritesFront before text written
 
--- what was got is the front of the bytes that were left, and this is still left
+-- what was got is a front of the bytes that were left, and the rest of them is still left
 abbrev pub HasGot : List ℕ → List ℕ → Option (List ℕ) → Type 0
-HasGot bytes got left = (rest : List ℕ) × (bytes ≡ got ++ rest) × (left ≡ Some rest)
+HasGot bytes got left = (front : IsPrefix got bytes) × (left ≡ Some front.0)
 
 -- at most so many bytes were taken from what was left
 abbrev pub TakesAtMost : ℕ → List ℕ → Option (List ℕ) → Type 0

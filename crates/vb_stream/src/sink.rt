@@ -1,14 +1,14 @@
 // Sinks of bytes.
-ghost use Rattle.std.specs.Prelude.{◌≡◌, ◌-◌, ◌+◌, ℕ, ◌≤◌, ◌<◌, List, [], ◌∷◌, ◌++◌, length, Some, None, Option, IfOk, IsOk, IsErr, Err, IsSome, ◌↔◌, OnOk, OnErr};
-ghost use Rattle.vb_cause.specs.Faults.{HasRisen};
-ghost use Rattle.vb_failures.specs.Failing.{due_of, passed, with_failure};
+ghost use Rattle.std.specs.Prelude.{◌≡◌, ℕ, ◌≤◌, ◌<◌, List, [], length, Some, None, Option, Bool, false, IfOk, is_err, Err, IsSome, ◌↔◌, OnOk, OnErr};
+ghost use Rattle.vb_cause.specs.Failing.{due_of, with_failure};
+ghost use Rattle.vb_stream.specs.Counts.{faults_after_write, shortages_after_write};
+ghost use Rattle.vb_stream.specs.Memory.{after_write};
 ghost use Rattle.vb_stream.specs.Streams.{TakesPiece};
 ghost use Rattle.vb_stream.specs.declared.sink.SinkError.{SinkError};
 
 use std::alloc::{AllocError, Global};
 use std::marker::Model;
-use vb_cause::raised;
-use vb_failures::Failures;
+use vb_cause::{Failures, raised};
 use vb_list::Items;
 
 /// Why a write took less than it was given.
@@ -28,27 +28,31 @@ pub trait Sink {
     ghost faults: { Self → ℕ };
     /// How often a write found no memory.
     ghost shortages: { Self → ℕ };
+    /// Whether the last write ended in an error.
+    ghost stopped: { Self → Bool };
 
-    /// Takes bytes from the front of the piece, and answers how many: at least one of a piece that isn't empty.
+    /// Takes bytes from the front of the piece, and answers how many: at least one of a piece that isn't empty. A write
+    /// that fails raises the count of faults alone, and one that finds no memory the count of shortages alone, each by
+    /// exactly one or to its end; at Ok both stay.
     fn write(&mut self, piece: &[u8]) -> Result<usize, SinkError>
         ensures count { IfOk result (λ n. n ≤ length piece.now) }
         ensures progress { 0 < length piece.now → IfOk result (λ n. 0 < n) }
         ensures taken { (before : List ℕ) → written self.old ≡ Some before → TakesPiece before piece.now result (written self.new) }
         ensures untold { written self.old ≡ None → written self.new ≡ None }
-        ensures failed { result ≡ Err SinkError.Failed → HasRisen (faults self.old) (faults self.new) }
-        ensures memory { result ≡ Err SinkError.Memory → HasRisen (shortages self.old) (shortages self.new) }
-        ensures faults_kept { faults self.old ≤ faults self.new }
-        ensures shortages_kept { shortages self.old ≤ shortages self.new };
+        ensures faults { faults self.new ≡ faults_after_write (faults self.old) result }
+        ensures shortages { shortages self.new ≡ shortages_after_write (shortages self.old) result }
+        ensures stopped { stopped self.new ≡ is_err result };
 }
 
 /// A sink in memory. It fails exactly at the listed calls, and then takes no byte. Contracts see the bytes that it
-/// has, the listed calls, and its two counts.
+/// has, the listed calls, its two counts, and whether its last write ended in an error.
 #[derive(Debug, Drop)]
 pub struct MemorySink {
     bytes: Items<u8>,
     fails: Failures<()>,
     faults: u64,
     shortages: u64,
+    stopped: bool,
 }
 
 impl Model for MemorySink {
@@ -56,19 +60,20 @@ impl Model for MemorySink {
 
     ghost Value = { SinkView };
 
-    ghost view = { λ a. record { written = a.bytes; listed = a.fails; faults = a.faults; shortages = a.shortages } };
+    ghost view = { λ a. record { written = a.bytes; listed = a.fails; faults = a.faults; shortages = a.shortages; stopped = a.stopped } };
 }
 
 impl MemorySink {
     /// A sink with no byte. No call is listed to fail.
     pub fn new(alloc: Global) -> MemorySink
-        ensures { result ≡ record { written = []; listed = []; faults = 0; shortages = 0 } }
+        ensures { result ≡ record { written = []; listed = []; faults = 0; shortages = 0; stopped = false } }
     {
         MemorySink {
             bytes: Items::new(alloc),
             fails: Failures::new(alloc),
             faults: 0,
             shortages: 0,
+            stopped: false,
         }
     }
 
@@ -95,24 +100,24 @@ impl Sink for MemorySink {
 
     ghost shortages = { λ sink. sink.shortages };
 
+    ghost stopped = { λ sink. sink.stopped };
+
     fn write(&mut self, piece: &[u8]) -> Result<usize, SinkError>
         ensures count { IfOk result (λ n. n ≤ length piece.now) }
         ensures progress { 0 < length piece.now → IfOk result (λ n. 0 < n) }
         ensures taken { (before : List ℕ) → Some self.old.written ≡ Some before → TakesPiece before piece.now result (Some self.new.written) }
-        ensures failed { result ≡ Err SinkError.Failed → HasRisen self.old.faults self.new.faults }
-        ensures memory { result ≡ Err SinkError.Memory → HasRisen self.old.shortages self.new.shortages }
-        ensures faults_kept { self.old.faults ≤ self.new.faults }
-        ensures shortages_kept { self.old.shortages ≤ self.new.shortages }
+        ensures faults { self.new.faults ≡ faults_after_write self.old.faults result }
+        ensures shortages { self.new.shortages ≡ shortages_after_write self.old.shortages result }
+        ensures stopped { self.new.stopped ≡ is_err result }
 
-        // It fails exactly where the call is listed, takes nothing then, and else takes the whole piece.
+        // It fails exactly where the call is listed, and else takes the whole piece or finds no memory for it.
         ensures listed { (result ≡ Err SinkError.Failed) ↔ IsSome (due_of self.old.listed) }
-        ensures counted { self.new.listed ≡ passed self.old.listed }
         ensures whole { IfOk result (λ n. n ≡ length piece.now) }
-        ensures nothing { IsErr result → self.new.written ≡ self.old.written }
-        ensures no_fault { IsOk result → self.new.faults ≡ self.old.faults }
+        ensures exact { self.new ≡ after_write self.old piece.now result }
     {
         let due = self.fails.due();
         self.fails.pass();
+        self.stopped = true;
         if due.is_some() {
             self.faults = raised(self.faults);
             return Err(SinkError::Failed);
@@ -121,6 +126,7 @@ impl Sink for MemorySink {
             self.shortages = raised(self.shortages);
             return Err(SinkError::Memory);
         }
+        self.stopped = false;
         Ok(piece.len())
     }
 }

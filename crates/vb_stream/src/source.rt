@@ -1,13 +1,13 @@
 // Sources of bytes.
-ghost use Rattle.std.specs.Prelude.{◌≡◌, ◌-◌, ◌+◌, ℕ, ◌≤◌, ◌<◌, List, [], ◌∷◌, ◌++◌, length, Some, None, Option, IfOk, IsOk, IsErr, IsSome, ◌↔◌, OnOk, OnErr, take, drop, min};
-ghost use Rattle.vb_cause.specs.Faults.{HasRisen};
-ghost use Rattle.vb_failures.specs.Failing.{due_of, passed, with_failure};
+ghost use Rattle.std.specs.Prelude.{◌≡◌, ◌-◌, ◌+◌, ℕ, ◌≤◌, ◌<◌, Bool, false, List, [], ◌∷◌, ◌++◌, length, Some, None, Option, IfOk, is_err, IsErr, IsSome, ◌↔◌, OnOk, OnErr, take, drop, min};
+ghost use Rattle.vb_cause.specs.Failing.{due_of, with_failure};
+ghost use Rattle.vb_stream.specs.Counts.{faults_after_read};
+ghost use Rattle.vb_stream.specs.Memory.{after_read};
 ghost use Rattle.vb_stream.specs.Streams.{TakesFront};
 
 use std::alloc::{AllocError, Global};
 use std::marker::Model;
-use vb_cause::raised;
-use vb_failures::Failures;
+use vb_cause::{Failures, raised};
 use vb_list::Items;
 
 /// A read failed.
@@ -20,24 +20,28 @@ pub trait Source {
     ghost left: { Self → Option (List ℕ) };
     /// How often a read failed.
     ghost faults: { Self → ℕ };
+    /// Whether the last read failed.
+    ghost stopped: { Self → Bool };
 
     /// Puts the next bytes into the front of the buffer, and answers how many. 0 for a buffer that isn't empty is the end.
+    /// A read that fails raises the count of faults by exactly one or to its end; at Ok it stays.
     fn read(&mut self, into: &mut [u8]) -> Result<usize, SourceFault>
         ensures count { IfOk result (λ n. n ≤ length into.old) }
         ensures taken { (bytes : List ℕ) → left self.old ≡ Some bytes → TakesFront bytes result into.new (left self.new) }
         ensures untold { left self.old ≡ None → left self.new ≡ None }
-        ensures cause { IsErr result → HasRisen (faults self.old) (faults self.new) }
-        ensures kept { faults self.old ≤ faults self.new };
+        ensures faults { faults self.new ≡ faults_after_read (faults self.old) result }
+        ensures stopped { stopped self.new ≡ is_err result };
 }
 
 /// A source over bytes in memory. It fails exactly at the listed calls. Contracts see the bytes that are left, the
-/// listed calls, and the count of faults.
+/// listed calls, the count of faults, and whether its last read failed.
 #[derive(Debug, Drop)]
 pub struct MemorySource {
     bytes: Items<u8>,
     at: usize,
     fails: Failures<()>,
     faults: u64,
+    stopped: bool,
 }
 
 impl Model for MemorySource {
@@ -46,7 +50,7 @@ impl Model for MemorySource {
 
     ghost Value = { SourceView };
 
-    ghost view = { λ a. record { left = drop a.at a.bytes; listed = a.fails; faults = a.faults } };
+    ghost view = { λ a. record { left = drop a.at a.bytes; listed = a.fails; faults = a.faults; stopped = a.stopped } };
 
     ghost invariant = { λ a. a.at ≤ length a.bytes };
 }
@@ -54,13 +58,14 @@ impl Model for MemorySource {
 impl MemorySource {
     /// A source of these bytes. No call is listed to fail.
     pub fn new(alloc: Global, bytes: Items<u8>) -> MemorySource
-        ensures { result ≡ record { left = bytes; listed = []; faults = 0 } }
+        ensures { result ≡ record { left = bytes; listed = []; faults = 0; stopped = false } }
     {
         MemorySource {
             bytes,
             at: 0,
             fails: Failures::new(alloc),
             faults: 0,
+            stopped: false,
         }
     }
 
@@ -79,20 +84,22 @@ impl Source for MemorySource {
 
     ghost faults = { λ source. source.faults };
 
+    ghost stopped = { λ source. source.stopped };
+
     fn read(&mut self, into: &mut [u8]) -> Result<usize, SourceFault>
         ensures count { IfOk result (λ n. n ≤ length into.old) }
         ensures taken { (bytes : List ℕ) → Some self.old.left ≡ Some bytes → TakesFront bytes result into.new (Some self.new.left) }
-        ensures cause { IsErr result → HasRisen self.old.faults self.new.faults }
-        ensures kept { self.old.faults ≤ self.new.faults }
+        ensures faults { self.new.faults ≡ faults_after_read self.old.faults result }
+        ensures stopped { self.new.stopped ≡ is_err result }
 
         // It fails exactly where the call is listed, and takes all that the buffer has room for.
         ensures listed { IsErr result ↔ IsSome (due_of self.old.listed) }
-        ensures counted { self.new.listed ≡ passed self.old.listed }
         ensures full { IfOk result (λ n. n ≡ min (length into.old) (length self.old.left)) }
-        ensures no_fault { IsOk result → self.new.faults ≡ self.old.faults }
+        ensures exact { self.new ≡ after_read self.old result }
     {
         let due = self.fails.due();
         self.fails.pass();
+        self.stopped = due.is_some();
         if due.is_some() {
             self.faults = raised(self.faults);
             return Err(SourceFault);

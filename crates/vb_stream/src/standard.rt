@@ -1,5 +1,5 @@
 // The standard streams: the trusted edge, which tells no contents.
-ghost use Rattle.std.specs.Prelude.{◌≡◌, None};
+ghost use Rattle.std.specs.Prelude.{◌≡◌, false, None};
 
 use crate::{Sink, SinkError, Source, SourceFault};
 use std::io::{Read, Write};
@@ -10,6 +10,7 @@ use vb_cause::raised;
 pub struct StdSource<R> {
     reader: R,
     faults: u64,
+    stopped: bool,
 }
 
 impl<R: Read> StdSource<R> {
@@ -17,7 +18,11 @@ impl<R: Read> StdSource<R> {
     pub fn new(reader: R) -> StdSource<R>
         ensures { result.faults ≡ 0 }
     {
-        StdSource { reader, faults: 0 }
+        StdSource {
+            reader,
+            faults: 0,
+            stopped: false,
+        }
     }
 }
 
@@ -26,10 +31,16 @@ impl<R: Read> Source for StdSource<R> {
 
     ghost faults = { λ source. source.faults };
 
+    ghost stopped = { λ source. source.stopped };
+
     fn read(&mut self, into: &mut [u8]) -> Result<usize, SourceFault> {
         match self.reader.read(into) {
-            Ok(count) => Ok(count),
+            Ok(count) => {
+                self.stopped = false;
+                Ok(count)
+            }
             Err(_) => {
+                self.stopped = true;
                 self.faults = raised(self.faults);
                 Err(SourceFault)
             }
@@ -42,6 +53,7 @@ impl<R: Read> Source for StdSource<R> {
 pub struct StdSink<W> {
     writer: W,
     faults: u64,
+    stopped: bool,
 }
 
 impl<W: Write> StdSink<W> {
@@ -49,7 +61,11 @@ impl<W: Write> StdSink<W> {
     pub fn new(writer: W) -> StdSink<W>
         ensures { result.faults ≡ 0 }
     {
-        StdSink { writer, faults: 0 }
+        StdSink {
+            writer,
+            faults: 0,
+            stopped: false,
+        }
     }
 }
 
@@ -60,10 +76,16 @@ impl<W: Write> Sink for StdSink<W> {
 
     ghost shortages = { λ _. 0 };
 
+    ghost stopped = { λ sink. sink.stopped };
+
     fn write(&mut self, piece: &[u8]) -> Result<usize, SinkError> {
         match self.writer.write(piece) {
-            Ok(count) if count > 0 || piece.is_empty() => Ok(count),
+            Ok(count) if count > 0 || piece.is_empty() => {
+                self.stopped = false;
+                Ok(count)
+            }
             _ => {
+                self.stopped = true;
                 self.faults = raised(self.faults);
                 Err(SinkError::Failed)
             }

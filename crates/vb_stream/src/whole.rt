@@ -1,9 +1,9 @@
 // Many reads and writes in a row: a source's front, and a whole text.
-ghost use Rattle.std.specs.Prelude.{◌≡◌, ℕ, ◌+◌, ◌-◌, ◌≤◌, ◌<◌, List, [], ◌∷◌, ◌++◌, length, take, drop, Some, None, Err, IfOk, IsErr, true};
+ghost use Rattle.std.specs.Prelude.{◌≡◌, ℕ, ◌≤◌, ◌<◌, List, length, take, Some, None, IfOk, is_err, IsErr, Err, true};
 ghost use Rattle.vb_stream.specs.declared.whole.TheConstants.{BUFFER};
-ghost use Rattle.vb_cause.specs.Faults.{HasRisen};
+ghost use Rattle.vb_stream.specs.Counts.{faults_after_read, faults_after_reads, faults_after_write, shortages_after_write};
+ghost use Rattle.vb_stream.specs.declared.whole.ReadError.{ReadError};
 ghost use Rattle.vb_stream.specs.Streams.{WritesWhole, TakesFront, HasGot, GetsMore, GetsFront};
-ghost use Rattle.vb_stream.specs.declared.sink.SinkError.{SinkError};
 
 use crate::{Sink, SinkError, Source, SourceFault};
 use std::alloc::{AllocError, Global};
@@ -19,14 +19,14 @@ pub enum ReadError {
 /// How many bytes are asked for at once.
 const BUFFER: usize = 4096;
 
-/// Writes a whole text, in as many writes as the sink takes. Nothing is written after an error.
+/// Writes a whole text, in as many writes as the sink takes. Nothing is written after an error, so that each error is
+/// counted once.
 pub fn write_whole<O: Sink>(sink: &mut O, text: &[u8]) -> Result<(), SinkError>
     ensures written { (before : List ℕ) → O.written sink.old ≡ Some before → WritesWhole before text.now result (O.written sink.new) }
     ensures untold { O.written sink.old ≡ None → O.written sink.new ≡ None }
-    ensures failed { result ≡ Err SinkError.Failed → HasRisen (O.faults sink.old) (O.faults sink.new) }
-    ensures memory { result ≡ Err SinkError.Memory → HasRisen (O.shortages sink.old) (O.shortages sink.new) }
-    ensures faults_kept { O.faults sink.old ≤ O.faults sink.new }
-    ensures shortages_kept { O.shortages sink.old ≤ O.shortages sink.new }
+    ensures faults { O.faults sink.new ≡ faults_after_write (O.faults sink.old) result }
+    ensures shortages { O.shortages sink.new ≡ shortages_after_write (O.shortages sink.old) result }
+    ensures stopped { IsErr result → O.stopped sink.new ≡ true }
 {
     let mut rest = text;
     while !rest.is_empty() {
@@ -38,7 +38,8 @@ pub fn write_whole<O: Sink>(sink: &mut O, text: &[u8]) -> Result<(), SinkError>
     Ok(())
 }
 
-/// Reads the first bytes of a source, to its end or as many as this. After an error the bytes that were read are lost.
+/// Reads the first bytes of a source, to its end or as many as this. Nothing is read after an error, and the bytes that
+/// were read before it are lost.
 pub fn read_front<S: Source>(
     alloc: Global,
     source: &mut S,
@@ -47,8 +48,8 @@ pub fn read_front<S: Source>(
     ensures read { (bytes : List ℕ) → S.left source.old ≡ Some bytes → GetsFront most bytes result (S.left source.new) }
     ensures untold { S.left source.old ≡ None → S.left source.new ≡ None }
     ensures short { IfOk result (λ got. length got ≤ most) }
-    ensures fault { result ≡ Err ReadError.Fault → HasRisen (S.faults source.old) (S.faults source.new) }
-    ensures kept { S.faults source.old ≤ S.faults source.new }
+    ensures faults { S.faults source.new ≡ faults_after_reads (S.faults source.old) result }
+    ensures stopped { result ≡ Err ReadError.Fault → S.stopped source.new ≡ true }
 {
     let mut got = Items::new(alloc);
     let mut buffer = [0; BUFFER];
@@ -74,8 +75,8 @@ fn read_more<S: Source>(
     ensures untold { S.left source.old ≡ None → S.left source.new ≡ None }
     ensures short { length got.new ≤ most }
     ensures longer { IfOk result (λ more. more ≡ true → length got.old < length got.new) }
-    ensures fault { result ≡ Err ReadError.Fault → HasRisen (S.faults source.old) (S.faults source.new) }
-    ensures kept { S.faults source.old ≤ S.faults source.new }
+    ensures faults { S.faults source.new ≡ faults_after_reads (S.faults source.old) result }
+    ensures stopped { result ≡ Err ReadError.Fault → S.stopped source.new ≡ true }
 {
     let room = BUFFER.min(most - got.len());
     let count = match read_some(source, buffer, room) {
@@ -100,8 +101,8 @@ fn read_some<S: Source>(
     ensures count { IfOk result (λ n. n ≤ room) }
     ensures taken { (bytes : List ℕ) → S.left source.old ≡ Some bytes → TakesFront bytes result (take room buffer.new) (S.left source.new) }
     ensures untold { S.left source.old ≡ None → S.left source.new ≡ None }
-    ensures cause { IsErr result → HasRisen (S.faults source.old) (S.faults source.new) }
-    ensures kept { S.faults source.old ≤ S.faults source.new }
+    ensures faults { S.faults source.new ≡ faults_after_read (S.faults source.old) result }
+    ensures stopped { S.stopped source.new ≡ is_err result }
 {
     source.read(&mut buffer[..room])
 }

@@ -8,7 +8,7 @@ invariant-loop-buffer g l = record {
   front : (bytes : List ℕ) → g.S.Source.left l.fn.source ≡ Some bytes → HasGot bytes l.got (g.S.Source.left l.source);
   untold : g.S.Source.left l.fn.source ≡ None → g.S.Source.left l.source ≡ None;
   short : length l.got ≤ l.most;
-  faults : g.S.Source.faults l.fn.source ≤ g.S.Source.faults l.source;
+  faults : g.S.Source.faults l.source ≡ g.S.Source.faults l.fn.source;
 }
 
 abbrev pub decreases-loop-buffer : goal.decreases-loop-buffer

@@ -16,3 +16,6 @@ returns-in-Err-extend-clause-more g c = λ bytes h.
     lost-at-most c.args.most bytes c.args.got.now _ _
     (taken-got bytes c.args.got.now c.read_some.new.buffer _ _ c.in-Ok.count c.min-room.result h c.in-Ok.ensures.taken c.in-Ok.ensures.count)
     (omega (arith, length-take c.in-Ok.count c.read_some.new.buffer, c.in-Ok.ensures.count, c.min-room.ensures, c.len.ensures, c.requires))
+
+pub returns-in-Err-clause-more : goal.returns-in-Err-clause-more
+returns-in-Err-clause-more g c = λ bytes h. (c.args.got.now, omega (arith, c.requires), (h.0, c.in-Err.ensures.taken h.0.0 h.1))
