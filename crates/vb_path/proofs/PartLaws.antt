@@ -1,17 +1,17 @@
 -- The parts of a path are parts.
-use Rattle.std.proofs.Common.{◌≡◌, ℕ, zero, suc, ◌+◌, ◌-◌, ◌<◌, ◌≤◌, Bool, true, false, cond, not, ◌&&◌, ◌==◌, List, [], ◌∷◌, length, get_or, take, drop, position, MatchOption, Option, Some, None, Result, Ok, refl, sym, ap, subst, ◌∙◌, arith, inl, inr}
+use Rattle.std.proofs.Common.{◌≡◌, ℕ, zero, suc, ◌+◌, ◌-◌, ◌<◌, ◌≤◌, Bool, true, false, cond, not, ◌&&◌, ◌==◌, List, [], ◌∷◌, ◌++◌, length, get_or, take, drop, position, MatchOption, Option, Some, None, Result, Ok, refl, sym, ap, subst, ◌∙◌, arith, inl, inr}
 use Rattle.std.specs.Prelude.{is_none, nat_lt}
-use Rattle.std.specs.List.{position_or_len, AllByRecursion}
+use Rattle.std.specs.List.{flat_map, position_or_len, AllByRecursion}
 use Rattle.std.specs.Str.{IsUtf8, is_utf8, IsAscii}
 use Rattle.std.specs.Str.Lossy.{utf8_valid_len, valid_len_up_to}
 use Rattle.std.proofs.lemmas.Bool.{false≢true, eqb-true, ltb-false, le-ltb}
-use Rattle.std.proofs.lemmas.List.{length-drop, length-take, get_or-take, get_or-drop, take_all, append-nil}
+use Rattle.std.proofs.lemmas.List.{length-append, length-drop, length-take, get_or-append_right, get_or-take, get_or-drop, take_all, append-nil}
 use Rattle.std.proofs.lemmas.List.Quantifiers.{position-Some}
 use Rattle.std.proofs.lemmas.Str.{IsUtf8-from_is_utf8, IsUtf8-take, IsUtf8-drop, IsUtf8-nil, IsCharBoundary-before_ascii, IsCharBoundary-after_ascii, IsUtf8-append, IsUtf8-from_ascii}
 use Rattle.vb_path.specs.declared.path.PathError.{PathError}
 use Rattle.vb_path.specs.declared.path.PathError.TheVariants.{Empty, NotAbsolute, LongPath, NotUtf8, BadByte, TrailingSlash, Deep, EmptyPart, DotPart, LongPart}
-use Rattle.vb_path.specs.Paths.{path_of, pieces_of, bad_utf8_in, zero_byte_in, part_fault_of, parts_fault_of, first_fault, fault_of, fault_if, fault_at, fault_after_slash, parts_after_slash, parts_unless, text_of_path, IsPath, is_dots}
-use Rattle.vb_path.specs.Parts.{is_part, slash_place_in, IsPart}
+use Rattle.vb_path.specs.Paths.{path_of, pieces_of, with_byte, bad_utf8_in, zero_byte_in, part_fault_of, parts_fault_of, first_fault, fault_of, fault_if, fault_at, fault_after_slash, parts_after_slash, parts_unless, text_of_path, IsPath, is_dots}
+use Rattle.vb_path.specs.Parts.{is_part, slash_place_in, IsPart, MakePath}
 use Rattle.std.proofs.lemmas.Bool.Decides.{eqb_tells}
 use Rattle.vb_path.proofs.PartBounds.{length-part}
 use Rattle.vb_path.proofs.Pieces.{pieces-position}
@@ -243,36 +243,144 @@ one_piece part e =
 test_is_false : (a b : ℕ) → (a ≡ b → ⊥) → (a == b) ≡ false
 test_is_false a b apart = elim (eqb_tells a b) [ inl w ↦ absurd (apart w.1) | inr w ↦ w.0 ]
 
+-- the parts, each behind a slash
+abbrev slashed : List (List ℕ) → List ℕ
+slashed parts = flat_map (λ p. 47 ∷ p) parts
+
+-- what follows the first slash of a path's text
+abbrev after_first : List ℕ → List (List ℕ) → List ℕ
+after_first part rest = part ++ slashed rest
+
+lacks_rest : (byte b : ℕ) (bytes : List ℕ) → Lacks byte (b ∷ bytes) → Lacks byte bytes
+lacks_rest byte b bytes h k lt = h (suc k) (omega arith)
+
+lacks_append : (byte : ℕ) (xs ys : List ℕ) → Lacks byte xs → Lacks byte ys → Lacks byte (xs ++ ys)
+lacks_append byte [] ys h h' = h'
+lacks_append byte (x ∷ xs) ys h h' = lacks_more byte x (xs ++ ys) (h zero (omega arith)) (lacks_append byte xs ys (lacks_rest byte x xs h) h')
+
+-- a part ends at the slash behind it
+piece_before : (part more : List ℕ) → Lacks 47 part → pieces_of (part ++ 47 ∷ more) ≡ part ∷ pieces_of more
+piece_before [] more h = refl
+piece_before (b ∷ bytes) more h =
+    ap (λ (t : Bool). cond t ([] ∷ pieces_of (bytes ++ 47 ∷ more)) (with_byte b (pieces_of (bytes ++ 47 ∷ more)))) (h zero (omega arith))
+    ∙ ap (with_byte b) (piece_before bytes more (lacks_rest 47 b bytes h))
+
+-- the pieces of parts behind slashes are the parts
+pieces_again : (part : List ℕ) (rest : List (List ℕ)) → PartFacts part → AllByRecursion PartFacts rest → pieces_of (after_first part rest) ≡ part ∷ rest
+pieces_again part [] facts all = ap pieces_of (append-nil part) ∙ one_piece part facts.whole
+pieces_again part (next ∷ rest) facts all =
+    piece_before part (after_first next rest) (lacks_from_none 47 part facts.whole)
+    ∙ ap (λ (ps : List (List ℕ)). part ∷ ps) (pieces_again next rest all.0 all.1)
+
+clean_again : (part : List ℕ) (rest : List (List ℕ)) → PartFacts part → AllByRecursion PartFacts rest → Lacks 0 (47 ∷ after_first part rest)
+clean_again part [] facts all = subst (λ (bytes : List ℕ). Lacks 0 (47 ∷ bytes)) (sym (append-nil part)) (lacks_more 0 47 part refl facts.clean)
+clean_again part (next ∷ rest) facts all =
+    lacks_more 0 47 (part ++ slashed (next ∷ rest)) refl (lacks_append 0 part (slashed (next ∷ rest)) facts.clean (clean_again next rest all.0 all.1))
+
+slash_is_ascii : IsAscii (47 ∷ [])
+slash_is_ascii zero = omega arith
+slash_is_ascii (suc k) = omega arith
+
+utf8_again : (parts : List (List ℕ)) → AllByRecursion PartFacts parts → IsUtf8 (slashed parts)
+utf8_again [] all = IsUtf8-nil
+utf8_again (part ∷ rest) all =
+    IsUtf8-append (47 ∷ part) (slashed rest) (IsUtf8-append (47 ∷ []) part (IsUtf8-from_ascii (47 ∷ []) slash_is_ascii) all.0.utf8) (utf8_again rest all.1)
+
+-- a part has bytes
+some_bytes : (part : List ℕ) → PartFacts part → 0 < length part
+some_bytes part facts =
+    let form = (fault_if-none (length part == 0) EmptyPart (fault_if (is_dots part) DotPart (fault_if (nat_lt 255 (length part)) (LongPart (length part)) None)) facts.form).0 in
+    counted part form where
+      counted : (bytes : List ℕ) → (length bytes == 0) ≡ false → 0 < length bytes
+      counted [] h = absurd (false≢true (sym h))
+      counted (b ∷ bytes) h = omega arith
+
+last_behind : (xs ys : List ℕ) → 0 < length ys → get_or (xs ++ ys) (length (xs ++ ys) - 1) 0 ≡ get_or ys (length ys - 1) 0
+last_behind xs ys h =
+    let at : length (xs ++ ys) - 1 - length xs ≡ length ys - 1 = omega (arith, length-append xs ys) in
+    get_or-append_right xs ys (length xs) (length (xs ++ ys) - 1) 0 refl (omega (arith, length-append xs ys))
+    ∙ ap (λ (n : ℕ). get_or ys n 0) at
+
+-- the text of parts doesn't end with a slash
+no_last_slash : (part : List ℕ) (rest : List (List ℕ)) → PartFacts part → AllByRecursion PartFacts rest → (get_or (after_first part rest) (length (after_first part rest) - 1) 0 == 47) ≡ false
+no_last_slash part [] facts all =
+    subst (λ (bytes : List ℕ). (get_or bytes (length bytes - 1) 0 == 47) ≡ false) (sym (append-nil part)) (lacks_from_none 47 part facts.whole (length part - 1) (omega (arith, some_bytes part facts)))
+no_last_slash part (next ∷ rest) facts all =
+    let more = after_first next rest in
+    let some : 0 < length more = omega (arith, length-append next (slashed rest), some_bytes next all.0) in
+    ap (λ (b : ℕ). b == 47) (last_behind part (47 ∷ more) (omega arith) ∙ last_behind (47 ∷ []) more some)
+    ∙ no_last_slash next rest all.0 all.1
+
+good_forms : (parts : List (List ℕ)) → AllByRecursion PartFacts parts → parts_fault_of parts ≡ None
+good_forms [] all = refl
+good_forms (part ∷ parts) all =
+    ap (λ (o : Option PathError). first_fault o (parts_fault_of parts)) all.0.form ∙ good_forms parts all.1
+
+facts_of_parts : (parts : List (List ℕ)) → AllByRecursion IsPart parts → AllByRecursion PartFacts parts
+facts_of_parts [] all = tt
+facts_of_parts (part ∷ parts) all = (facts_of_part part all.0, facts_of_parts parts all.1)
+
+-- parts behind slashes read as themselves
+read_again : (part : List ℕ) (rest : List (List ℕ)) → PartFacts part → AllByRecursion PartFacts rest → length (part ∷ rest) ≤ 32 → length (47 ∷ after_first part rest) ≤ 1024 → path_of (47 ∷ after_first part rest) ≡ Ok (part ∷ rest)
+read_again part rest facts all few short =
+    let after = after_first part rest in
+    let text = 47 ∷ after in
+    let some : (length after == 0) ≡ false = test_is_false (length after) 0 (λ h. omega (arith, h, length-append part (slashed rest), some_bytes part facts)) in
+    let pieces = pieces_again part rest facts all in
+    let shallow : nat_lt 32 (length (pieces_of after)) ≡ false = ap (λ (ps : List (List ℕ)). nat_lt 32 (length ps)) pieces ∙ le-ltb 32 (length (part ∷ rest)) few in
+    let parts_fault : parts_fault_of (pieces_of after) ≡ None = ap parts_fault_of pieces ∙ good_forms (part ∷ rest) (facts, all) in
+    let after_fault : fault_after_slash after ≡ None = ap (λ (t : Bool). cond t None (fault_if (get_or after (length after - 1) 0 == 47) TrailingSlash (deep_faults after))) some
+    ∙ no_fault_if (get_or after (length after - 1) 0 == 47) TrailingSlash (deep_faults after) (no_last_slash part rest facts all)
+    ∙ no_fault_if (nat_lt 32 (length (pieces_of after))) (Deep (length (pieces_of after))) (parts_fault_of (pieces_of after)) shallow
+    ∙ parts_fault in
+    let none : fault_of text ≡ None = no_fault_if (length text == 0) Empty (start_faults text) (test_is_false (length text) 0 (λ h. omega (arith, h)))
+    ∙ no_fault_if (nat_lt 1024 (length text)) (LongPath (length text)) (utf8_faults text) (le-ltb 1024 (length text) short)
+    ∙ no_fault_at (bad_utf8_in text) NotUtf8 (zero_faults text) (no_bad_utf8 text (utf8_again (part ∷ rest) (facts, all)))
+    ∙ no_fault_at (zero_byte_in text) BadByte (slash_faults text) (none_from_lacks 0 text (clean_again part rest facts all))
+    ∙ after_fault in
+    ap (λ (o : Option PathError). parts_unless o (parts_after_slash after)) none
+    ∙ ap (λ (t : Bool). ok_parts (cond t [] (pieces_of after))) some ∙ ap ok_parts pieces
+
+-- the root is a path
+root_reads : path_of (47 ∷ []) ≡ Ok []
+root_reads =
+    let text : List ℕ = 47 ∷ [] in
+    let none : fault_of text ≡ None = no_fault_at (bad_utf8_in text) NotUtf8 (zero_faults text) (no_bad_utf8 text (IsUtf8-from_ascii (47 ∷ []) slash_is_ascii)) in
+    ap (λ (o : Option PathError). parts_unless o []) none
+
+-- parts that may be those of a path are
+pub parts_make_path : (parts : List (List ℕ)) → MakePath parts → IsPath parts
+parts_make_path [] m = root_reads
+parts_make_path (part ∷ rest) m =
+    read_again part rest (facts_of_part part m.valid.0) (facts_of_parts rest m.valid.1) m.few m.short
+
 -- a part alone is a path
 pub part_alone : (part : List ℕ) → IsPart part → IsPath (part ∷ [])
 part_alone part e =
-    let facts = facts_of_part part e in
-    let text = 47 ∷ part in
     let bounds = length-part part e in
-    let some : (length part == 0) ≡ false = (fault_if-none (length part == 0) EmptyPart (fault_if (is_dots part) DotPart (fault_if (nat_lt 255 (length part)) (LongPart (length part)) None)) facts.form).0 in
-    let piece = one_piece part facts.whole in
-    let slashes = lacks_from_none 47 part facts.whole in
-    let last : (get_or part (length part - 1) 0 == 47) ≡ false = slashes (length part - 1) (nonempty part some) in
-    let shallow : nat_lt 32 (length (pieces_of part)) ≡ false = ap (λ (ps : List (List ℕ)). nat_lt 32 (length ps)) piece in
-    let parts_fault : parts_fault_of (pieces_of part) ≡ None = ap parts_fault_of piece ∙ ap (λ (o : Option PathError). first_fault o None) facts.form in
-    let after : fault_after_slash part ≡ None = ap (λ (t : Bool). cond t None (fault_if (get_or part (length part - 1) 0 == 47) TrailingSlash (deep_faults part))) some
-    ∙ no_fault_if (get_or part (length part - 1) 0 == 47) TrailingSlash (deep_faults part) last
-    ∙ no_fault_if (nat_lt 32 (length (pieces_of part))) (Deep (length (pieces_of part))) (parts_fault_of (pieces_of part)) shallow
-    ∙ parts_fault in
-    let ascii : IsUtf8 (47 ∷ []) = IsUtf8-from_ascii (47 ∷ []) slash_is_ascii in
-    let clean : Lacks 0 text = lacks_more 0 47 part refl facts.clean in
-    let none : fault_of text ≡ None = no_fault_if (length text == 0) Empty (start_faults text) (test_is_false (length text) 0 (λ h. omega (arith, h)))
-    ∙ no_fault_if (nat_lt 1024 (length text)) (LongPath (length text)) (utf8_faults text) (le-ltb 1024 (length text) (omega (arith, bounds)))
-    ∙ no_fault_at (bad_utf8_in text) NotUtf8 (zero_faults text) (no_bad_utf8 text (IsUtf8-append (47 ∷ []) part ascii facts.utf8))
-    ∙ no_fault_at (zero_byte_in text) BadByte (slash_faults text) (none_from_lacks 0 text clean)
-    ∙ after in
-    let read : path_of text ≡ Ok (part ∷ []) = ap (λ (o : Option PathError). parts_unless o (parts_after_slash part)) none
-    ∙ ap (λ (t : Bool). ok_parts (cond t [] (pieces_of part))) some ∙ ap ok_parts piece in
-    subst (λ (rest : List ℕ). path_of (47 ∷ rest) ≡ Ok (part ∷ [])) (sym (append-nil part)) read where
-      nonempty : (bytes : List ℕ) → (length bytes == 0) ≡ false → length bytes - 1 < length bytes
-      nonempty [] h = absurd (false≢true (sym h))
-      nonempty (b ∷ bytes) h = omega arith
+    parts_make_path (part ∷ []) (record { valid = (e, tt); few = omega arith; short = omega (arith, ap length (append-nil part), bounds) })
 
-      slash_is_ascii : IsAscii (47 ∷ [])
-      slash_is_ascii zero = omega arith
-      slash_is_ascii (suc k) = omega arith
+few_after : (text : List ℕ) → fault_after_slash text ≡ None → length (parts_after_slash text) ≤ 32
+few_after text =
+    elim (length text == 0) as (λ (t : Bool). cond t None (fault_if (get_or text (length text - 1) 0 == 47) TrailingSlash (deep_faults text)) ≡ None → length (cond t [] (pieces_of text)) ≤ 32) [
+      | true ↦ λ e. omega arith
+      | false ↦ λ e.
+          let slash = fault_if-none (get_or text (length text - 1) 0 == 47) TrailingSlash (deep_faults text) e in
+          ltb-false 32 (length (pieces_of text)) (fault_if-none (nat_lt 32 (length (pieces_of text))) (Deep (length (pieces_of text))) (parts_fault_of (pieces_of text)) slash.1).0
+    ]
+
+-- the parts of a path are at most 32, and its text has at most 1,024 bytes
+pub path_makes_parts : (parts : List (List ℕ)) → IsPath parts → MakePath parts
+path_makes_parts parts e =
+    let text = text_of_path parts in
+    let read = unless_ok (fault_of text) (parts_after_slash (drop 1 text)) parts e in
+    let some = fault_if-none (length text == 0) Empty (start_faults text) read.0 in
+    let start = fault_if-none (not (get_or text 0 0 == 47)) NotAbsolute (length_faults text) some.1 in
+    let short = fault_if-none (nat_lt 1024 (length text)) (LongPath (length text)) (utf8_faults text) start.1 in
+    record {
+      valid = parts_are_parts parts e;
+      few = subst (λ (ps : List (List ℕ)). length ps ≤ 32) read.1 (few_after (drop 1 text) (pieces_of_rest text read.0).1);
+      short = ltb-false 1024 (length text) short.0;
+    }
+
+pub ruleset part_laws = (parts_are_parts, part_alone, parts_make_path, path_makes_parts)

@@ -1,6 +1,8 @@
 // Paths: what a text of a path must be, and its parts.
-ghost use Rattle.std.specs.Prelude.{◌≡◌, IfOk, Ok, None};
-ghost use Rattle.vb_path.specs.Paths.{IsDueFrom, path_of, text_of_path, fault_of};
+ghost use Rattle.std.specs.Prelude.{◌≡◌, ◌∷◌, IfOk, Ok, None};
+ghost use Rattle.std.specs.List.{flat_map};
+ghost use Rattle.vb_path.specs.Parts.{MakePath};
+ghost use Rattle.vb_path.specs.Paths.{IsDueFrom, IsPath, path_of, text_of_path, fault_of};
 
 use crate::parse::{fault_in, parts_past_slash};
 use crate::{Bytes, Names};
@@ -67,6 +69,16 @@ impl Path {
         }
     }
 
+    /// The path of these parts, from the root down.
+    #[tactic(auto, using(crate::proofs::PartLaws::parts_make_path))]
+    pub fn of_parts(alloc: Global, parts: Names) -> Result<Path, AllocError>
+        requires { MakePath parts }
+        ensures { IfOk result (λ path. path ≡ parts) }
+    {
+        let text = text_of(alloc, parts.slice())?;
+        Ok(Path { text, parts })
+    }
+
     /// The path as a text: a slash before each part, and a lone slash for the root.
     pub fn text(&self) -> &[u8]
         ensures spelled { result.now ≡ text_of_path self.now }
@@ -78,7 +90,8 @@ impl Path {
 
     /// The parts, from the root down.
     pub fn parts(&self) -> &[Bytes]
-        ensures { result.now ≡ self.now }
+        ensures same { result.now ≡ self.now }
+        ensures valid { IsPath self.now }
     {
         self.parts.slice()
     }
@@ -106,6 +119,28 @@ fn read(alloc: Global, text: &[u8]) -> Result<Path, AllocError>
         text: Bytes::of(alloc, text)?,
         parts,
     })
+}
+
+/// The parts, each behind a slash.
+fn slashed(alloc: Global, parts: &[Bytes]) -> Result<Bytes, AllocError>
+    ensures { IfOk result (λ text. text ≡ flat_map (λ part. 47 ∷ part) parts.now) }
+{
+    let mut text = Bytes::new(alloc);
+    for part in parts {
+        text.add(b'/')?;
+        text.extend(part.slice())?;
+    }
+    Ok(text)
+}
+
+/// The text of the path with these parts.
+fn text_of(alloc: Global, parts: &[Bytes]) -> Result<Bytes, AllocError>
+    ensures { IfOk result (λ text. text ≡ text_of_path parts.now) }
+{
+    if parts.is_empty() {
+        return Bytes::of(alloc, b"/");
+    }
+    slashed(alloc, parts)
 }
 
 /// Equal names.

@@ -1,7 +1,7 @@
 -- What holds where an operation isn't refused, and of the tree that it then leaves.
 use Rattle.std.proofs.Common.{◌≡◌, ℕ, suc, ◌+◌, ◌-◌, ◌≤◌, Bool, true, false, cond, not, ◌&&◌, ◌||◌, nat_lt, List, [], ◌∷◌, ◌++◌, length, take, drop, position, Option, Some, None, is_some, is_none, inl, inr, refl, sym, ap, ◌∙◌, subst, arith, append_assoc, append-nil, length-append}
 use Rattle.std.specs.Option.{option_map}
-use Rattle.std.proofs.lemmas.Bool.{cases_Bool, false≢true}
+use Rattle.std.proofs.lemmas.Bool.{cases_Bool, false≢true, ltb-false}
 use Rattle.std.proofs.lemmas.Bool.Decides.{nat_tests}
 use Rattle.vb_tree.specs.declared.tree.Kind.{Kind}
 use Rattle.vb_tree.specs.declared.tree.Kind.TheVariants.{Folder, File}
@@ -10,13 +10,13 @@ use Rattle.vb_tree.specs.declared.tree.TreeEntry.{TreeEntry}
 use Rattle.vb_tree.specs.declared.operation.Op.{Op}
 use Rattle.vb_tree.specs.declared.operation.Op.TheVariants.{Create, MakeDir, Write, Truncate, Rename, Remove, RemoveDir, Read, List as Listing, Stat}
 use Rattle.vb_tree.specs.declared.reply.Refusal.{Refusal}
-use Rattle.vb_tree.specs.declared.reply.Refusal.TheVariants.{NoEntry, NotADir}
-use Rattle.vb_path.specs.Paths.{same_path}
-use Rattle.vb_tree.specs.Trees.{is_root, entry_at, kind_at, bytes_in, is_folder, is_file, has_entries, without, insert_entry, with_bytes_at, pages_of_length, page_count, pages_with, node_count, parent_of, IsTree, IsWithin}
+use Rattle.vb_tree.specs.declared.reply.Refusal.TheVariants.{NoEntry, NotADir, DeepTree}
+use Rattle.vb_path.specs.Paths.{same_path, IsPath}
+use Rattle.vb_tree.specs.Trees.{longest_file, is_root, entry_at, kind_at, bytes_in, is_folder, is_file, has_entries, without, insert_entry, with_bytes_at, pages_of_length, page_count, pages_with, node_count, parent_of, IsTree, IsWithin}
 use Rattle.vb_tree.specs.Contents.{written_over, truncated_to}
-use Rattle.vb_tree.specs.Renames.{is_within}
-use Rattle.vb_tree.specs.Refusals.{refuse, allow, refuse_step, refuse_rest, refuse_way, refuse_unless_file, refuse_unless_folder, refuse_new, refuse_length, refuse_resize, refuse_move, longest_file, refusal_of}
-use Rattle.vb_tree.specs.Operations.{answer_of, effect_of, is_done, reply_unless, tree_after, tree_after_reply}
+use Rattle.vb_tree.specs.Renames.{is_within, makes_deep}
+use Rattle.vb_tree.specs.Refusals.{refuse, allow, refuse_step, refuse_rest, refuse_way, refuse_unless_file, refuse_unless_folder, refuse_new, refuse_length, refuse_resize, refuse_move, refusal_of}
+use Rattle.vb_tree.specs.Operations.{HasPaths, answer_of, effect_of, is_done, reply_unless, tree_after, tree_after_reply}
 use Rattle.vb_tree.proofs.Lookups.{find-position, length-insert_entry, page_count-insert_entry}
 use Rattle.vb_tree.proofs.Sizes.{length-written_over, length-truncated_to, page_count-changed}
 use Rattle.vb_tree.proofs.TreeLaws.{HasFile, IsTree-insert, IsTree-with_bytes_at}
@@ -178,8 +178,8 @@ folder-within tree top path is h k = by_rest (drop (length top) path) (within-pa
       folder-above tree top (x ∷ xs) is (omega arith) (folder-parent tree (top ++ x ∷ xs) Folder is below here)
 
 -- what isn't refused may move
-IsMovable-allowed : (limits : Limits) (tree : List TreeEntry) (source target : List (List ℕ)) → refusal_of limits tree (Rename source target) ≡ None → same_path source target ≡ false → IsTree tree → IsMovable source target tree
-IsMovable-allowed limits tree source target h differ is =
+IsMovable-allowed : (limits : Limits) (tree : List TreeEntry) (source target : List (List ℕ)) → refusal_of limits tree (Rename source target) ≡ None → same_path source target ≡ false → IsPath target → IsTree tree → IsMovable source target tree
+IsMovable-allowed limits tree source target h differ valid is =
     let root = refuse-none (is_root source || is_root target) _ _ h in
     let roots = either_false (is_root source) (is_root target) root.0 in
     let way = refuse_way-none tree source _ root.1 in
@@ -194,6 +194,8 @@ IsMovable-allowed limits tree source target h differ is =
       target_below = roots.1;
       target_free = folder_refused (is_file (kind_at source tree)) (kind_at target tree) free.0;
       parent_there = up.1;
+      target_valid = valid;
+      shallow = (refuse-none (makes_deep source target tree) DeepTree None free.1).0;
       parent_stays = elim (cases_Bool (is_within source (parent_of target))) [
         | inr s ↦ s
         | inl s ↦ absurd (
@@ -202,34 +204,44 @@ IsMovable-allowed limits tree source target h differ is =
       ];
     }
 
+-- a length that isn't refused is that of a file
+refuse_resize-short : (limits : Limits) (tree : List TreeEntry) (path : List (List ℕ)) (len : ℕ) (bytes : List ℕ) → refuse_resize limits tree path len ≡ None → length bytes ≡ len → length bytes ≤ longest_file
+refuse_resize-short limits tree path len bytes h e =
+    let short : len ≤ longest_file = ltb-false longest_file len (refuse-none (nat_lt longest_file len) _ _ h).0 in
+    subst (λ n. n ≤ longest_file) (sym e) short
+
 -- an operation that isn't refused leaves a tree
-IsTree-effect : (limits : Limits) (tree : List TreeEntry) (op : Op) → refusal_of limits tree op ≡ None → IsTree tree → IsTree (effect_of tree op)
-IsTree-effect limits tree (Create path) h is =
+IsTree-effect : (limits : Limits) (tree : List TreeEntry) (op : Op) → refusal_of limits tree op ≡ None → HasPaths op → IsTree tree → IsTree (effect_of tree op)
+IsTree-effect limits tree (Create path) h valid is =
     let free = refuse_new-none limits tree path h in
     IsTree-insert (record { path = path; kind = File; bytes = [] }) tree free.nothing_there
-    (record { below_root = free.below_root; parent_there = free.parent_there; folder_empty = λ e. refl }) is
-IsTree-effect limits tree (MakeDir path) h is =
+    (record { path_valid = valid; below_root = free.below_root; parent_there = free.parent_there; folder_empty = λ e. refl; bytes_few = omega arith }) is
+IsTree-effect limits tree (MakeDir path) h valid is =
     let free = refuse_new-none limits tree path h in
     IsTree-insert (record { path = path; kind = Folder; bytes = [] }) tree free.nothing_there
-    (record { below_root = free.below_root; parent_there = free.parent_there; folder_empty = λ e. refl }) is
-IsTree-effect limits tree (Write path offset bytes) h is =
-    IsTree-with_bytes_at path _ tree (refuse_unless_file-none tree path _ h).0 is
-IsTree-effect limits tree (Truncate path len) h is =
-    IsTree-with_bytes_at path _ tree (refuse_unless_file-none tree path _ h).0 is
-IsTree-effect limits tree (Rename source target) h is =
+    (record { path_valid = valid; below_root = free.below_root; parent_there = free.parent_there; folder_empty = λ e. refl; bytes_few = omega arith }) is
+IsTree-effect limits tree (Write path offset bytes) h valid is =
+    let file = refuse_unless_file-none tree path _ h in
+    let after = written_over offset bytes (bytes_in (entry_at path tree)) in
+    IsTree-with_bytes_at path after tree (refuse_resize-short limits tree path _ after file.1 (length-written_over offset bytes (bytes_in (entry_at path tree)))) file.0 is
+IsTree-effect limits tree (Truncate path len) h valid is =
+    let file = refuse_unless_file-none tree path _ h in
+    let after = truncated_to len (bytes_in (entry_at path tree)) in
+    IsTree-with_bytes_at path after tree (refuse_resize-short limits tree path _ after file.1 (length-truncated_to len (bytes_in (entry_at path tree)))) file.0 is
+IsTree-effect limits tree (Rename source target) h valid is =
     elim (cases_Bool (same_path source target)) [
       | inl s ↦ subst (λ v. IsTree (cond v tree (after_rename source target tree))) (sym s) is
-      | inr s ↦ subst (λ v. IsTree (cond v tree (after_rename source target tree))) (sym s) (IsTree-after_rename source target tree (IsMovable-allowed limits tree source target h s is))
+      | inr s ↦ subst (λ v. IsTree (cond v tree (after_rename source target tree))) (sym s) (IsTree-after_rename source target tree (IsMovable-allowed limits tree source target h s valid.1 is))
     ]
-IsTree-effect limits tree (Remove path) h is =
+IsTree-effect limits tree (Remove path) h valid is =
     let folder = refuse_unless_file-folder tree path None (refuse-none (is_root path) _ _ h).1 in
     IsTree-without path tree (no_entries tree path tree folder is.all_belong) is
-IsTree-effect limits tree (RemoveDir path) h is =
+IsTree-effect limits tree (RemoveDir path) h valid is =
     let used = refuse_unless_folder-none tree path _ (refuse-none (is_root path) _ _ h).1 in
     IsTree-without path tree (refuse-none (has_entries path tree) _ _ used).0 is
-IsTree-effect limits tree (Read path offset len) h is = is
-IsTree-effect limits tree (Listing path) h is = is
-IsTree-effect limits tree (Stat path) h is = is
+IsTree-effect limits tree (Read path offset len) h valid is = is
+IsTree-effect limits tree (Listing path) h valid is = is
+IsTree-effect limits tree (Stat path) h valid is = is
 
 -- an operation that isn't refused keeps to the limits
 IsWithin-effect : (limits : Limits) (tree : List TreeEntry) (op : Op) → refusal_of limits tree op ≡ None → IsWithin limits tree → IsWithin limits (effect_of tree op)
@@ -263,9 +275,9 @@ after_refusal P tree op None before after = after_answer P tree op (is_done (ans
 after_refusal P tree op (Some reason) before after = before
 
 -- an operation leaves a tree
-pub IsTree-tree_after : (limits : Limits) (tree : List TreeEntry) (op : Op) → IsTree tree → IsTree (tree_after limits tree op)
-IsTree-tree_after limits tree op is =
-    after_refusal IsTree tree op (refusal_of limits tree op) is (λ h. IsTree-effect limits tree op h is)
+pub IsTree-tree_after : (limits : Limits) (tree : List TreeEntry) (op : Op) → HasPaths op → IsTree tree → IsTree (tree_after limits tree op)
+IsTree-tree_after limits tree op valid is =
+    after_refusal IsTree tree op (refusal_of limits tree op) is (λ h. IsTree-effect limits tree op h valid is)
 
 -- an operation keeps to the limits
 pub IsWithin-tree_after : (limits : Limits) (tree : List TreeEntry) (op : Op) → IsWithin limits tree → IsWithin limits (tree_after limits tree op)

@@ -4,7 +4,7 @@ pub mod Lookups
 pub mod MovedEntries
 pub mod MovedPaths
 pub mod NameOrder
-pub mod ReadMoved
+pub mod Pages
 pub mod Removals
 pub mod Replies
 pub mod RenameLaws

@@ -1,16 +1,15 @@
 -- What a removal leaves of a tree.
-use Rattle.std.proofs.Common.{◌≡◌, ℕ, suc, ◌+◌, ◌≤◌, Bool, true, false, cond, not, ◌&&◌, ◌||◌, List, [], ◌∷◌, length, Option, Some, None, inl, inr, refl, sym, ap, ◌∙◌, subst, arith}
+use Rattle.std.proofs.Common.{◌≡◌, ℕ, ◌+◌, ◌≤◌, Bool, true, false, cond, not, ◌&&◌, ◌||◌, List, [], ◌∷◌, length, Some, inl, inr, refl, sym, ap, ◌∙◌, arith}
 use Rattle.std.specs.Option.{option_map}
-use Rattle.std.specs.declared.cmp.Ordering.TheVariants.{Less}
 use Rattle.std.specs.List.{filter, sum_by}
 use Rattle.std.proofs.lemmas.Bool.{cases_Bool, false≢true}
 use Rattle.std.proofs.lemmas.List.Sums.{sum_by-cons}
-use Rattle.vb_tree.specs.declared.tree.Kind.{Kind}
-use Rattle.vb_tree.specs.declared.tree.Kind.TheVariants.{Folder, File}
+use Rattle.vb_tree.specs.declared.tree.Kind.TheVariants.{Folder}
 use Rattle.vb_tree.specs.declared.tree.TreeEntry.{TreeEntry}
-use Rattle.vb_path.specs.Paths.{same_path, path_cmp}
+use Rattle.vb_path.specs.Paths.{same_path}
 use Rattle.vb_path.proofs.PathLaws.{same_path-Decides}
-use Rattle.vb_tree.specs.Trees.{is_root, entry_at, kind_at, is_folder, is_entry_of, has_entries, without, parent_of, pages_of_length, page_count, AllAfter, AreInOrder, BelongsIn, AllBelongIn, IsTree}
+use Rattle.vb_tree.proofs.TreeLaws.{BelongsIn-kept}
+use Rattle.vb_tree.specs.Trees.{is_root, entry_at, kind_at, is_folder, is_entry_of, has_entries, without, parent_of, pages_of_length, page_count, AllAfter, AreInOrder, AllBelongIn, IsTree}
 
 AllAfter-filter : (test : TreeEntry → Bool) (p : List (List ℕ)) (es : List TreeEntry) → AllAfter p es → AllAfter p (filter test es)
 AllAfter-filter test p [] all = tt
@@ -75,7 +74,7 @@ belongs-without tree path (e ∷ es) none all =
     ap (λ o. cond (is_root (parent_of e.path)) (Some Folder) (option_map (λ x. x.kind) o)) (entry_at-without (parent_of e.path) path tree other) ∙ all.0.parent_there in
     elim (same_path path e.path) as (λ v. AllBelongIn (without path tree) (cond (not v) (e ∷ without path es) (without path es))) [
       | true ↦ more
-      | false ↦ (record { below_root = all.0.below_root; parent_there = parent; folder_empty = all.0.folder_empty }, more)
+      | false ↦ (BelongsIn-kept tree (without path tree) e parent all.0, more)
     ]
 
 -- a tree without something that has no entries is a tree

@@ -1,5 +1,5 @@
 -- What a rename leaves of a tree.
-use Rattle.std.proofs.Common.{◌≡◌, ℕ, suc, ◌+◌, ◌-◌, ◌<◌, ◌≤◌, Bool, true, false, cond, not, ◌&&◌, List, [], ◌∷◌, ◌++◌, length, take, drop, Option, Some, None, inl, inr, refl, sym, ap, ◌∙◌, subst, arith, length-append, append-nil}
+use Rattle.std.proofs.Common.{◌≡◌, ℕ, ◌+◌, ◌≤◌, Bool, true, false, cond, not, ◌&&◌, List, [], ◌∷◌, ◌++◌, length, drop, Option, Some, None, inl, inr, refl, sym, ap, ◌∙◌, subst, arith, length-append, append-nil}
 use Rattle.std.specs.Option.{option_map}
 use Rattle.std.specs.Ordering.{ordering_reverse}
 use Rattle.std.specs.declared.cmp.Ordering.TheVariants.{Less, Greater}
@@ -9,15 +9,16 @@ use Rattle.std.proofs.lemmas.List.{append_cancel_left}
 use Rattle.std.proofs.lemmas.Bool.{cases_Bool, false≢true}
 use Rattle.std.proofs.lemmas.List.Sums.{sum_by-cons}
 use Rattle.vb_tree.specs.declared.tree.Kind.{Kind}
-use Rattle.vb_tree.specs.declared.tree.Kind.TheVariants.{Folder, File}
+use Rattle.vb_tree.specs.declared.tree.Kind.TheVariants.{Folder}
 use Rattle.vb_tree.specs.declared.tree.TreeEntry.{TreeEntry}
-use Rattle.vb_path.specs.Paths.{same_path, path_cmp}
+use Rattle.vb_path.specs.Paths.{same_path, path_cmp, IsPath}
 use Rattle.vb_path.proofs.PathLaws.{same_path-Decides, path_cmp-total}
-use Rattle.vb_tree.specs.Trees.{is_root, entry_at, kind_at, insert_entry, without, parent_of, pages_of_length, page_count, AllAfter, AreInOrder, BelongsIn, AllBelongIn, IsTree}
-use Rattle.vb_tree.specs.Renames.{is_within, moved_path, path_after, moved, in_path_order}
+use Rattle.vb_tree.specs.Trees.{is_root, entry_at, kind_at, without, parent_of, pages_of_length, page_count, AllAfter, AreInOrder, AllBelongIn, IsTree}
+use Rattle.vb_tree.specs.Renames.{is_within, is_deep, makes_deep, moved_path, path_after, moved, in_path_order}
 use Rattle.vb_tree.proofs.TreeLaws.{AreInOrder-insert, entry_at-insert, entry_at-inserted, AllBelongIn-insert}
 use Rattle.vb_tree.proofs.Lookups.{length-insert_entry, page_count-insert_entry}
-use Rattle.vb_tree.proofs.Removals.{sizes-without}
+use Rattle.vb_tree.proofs.Removals.{either_false, sizes-without}
+use Rattle.vb_tree.proofs.MovedPaths.{path_after-path}
 use Rattle.vb_tree.proofs.Within.{within-parts, within-append, within-parent, parent_of-append, not_root, some_parts, folder-parent, folder-above}
 
 -- ---- entries put into path order
@@ -59,6 +60,8 @@ pub record IsMovable (source target : List (List ℕ)) (tree : List TreeEntry) :
   pub target_free : kind_at target tree ≡ Some Folder → ⊥
   pub parent_there : kind_at (parent_of target) tree ≡ Some Folder
   pub parent_stays : is_within source (parent_of target) ≡ false
+  pub target_valid : IsPath target
+  pub shallow : makes_deep source target tree ≡ false
 
 -- a path that lies in a folder of the tree and isn't the target
 record IsPlace (target : List (List ℕ)) (tree : List TreeEntry) (path : List (List ℕ)) : Type 0 where
@@ -249,17 +252,20 @@ parent-after source target tree path m h =
           ∙ ap (λ r. target ++ r) (drop-append_seam source (parent_of (x ∷ xs))) in
           subst (λ p. kind_at p (after_rename source target tree) ≡ Some Folder) (at ∙ sym (parent_of-append target (x ∷ xs) (omega arith)) ∙ ap parent_of (sym a)) (folder-moved source target tree (parent_of path) m h)
 
-AllBelongIn-moved : (source target : List (List ℕ)) (tree es : List TreeEntry) → IsMovable source target tree → AllBelongIn tree es → AllBelongIn (after_rename source target tree) (moved source target (without target es))
-AllBelongIn-moved source target tree [] m all = tt
-AllBelongIn-moved source target tree (e ∷ es) m all =
-    let more = AllBelongIn-moved source target tree es m all.1 in
+AllBelongIn-moved : (source target : List (List ℕ)) (tree es : List TreeEntry) → IsMovable source target tree → makes_deep source target es ≡ false → AllBelongIn tree es → AllBelongIn (after_rename source target tree) (moved source target (without target es))
+AllBelongIn-moved source target tree [] m shallow all = tt
+AllBelongIn-moved source target tree (e ∷ es) m shallow all =
+    let each = either_false (is_within source e.path && is_deep (moved_path source target e.path)) (makes_deep source target es) shallow in
+    let more = AllBelongIn-moved source target tree es m each.1 all.1 in
     elim (same_path target e.path) as (λ v. AllBelongIn (after_rename source target tree) (moved source target (cond (not v) (e ∷ without target es) (without target es)))) [
       | true ↦ more
       | false ↦ (
         record {
+          path_valid = path_after-path source target e.path m.target_valid each.0 all.0.path_valid;
           below_root = below-after source target e.path m.target_below all.0.below_root;
           parent_there = parent-after source target tree e.path m all.0.parent_there;
           folder_empty = all.0.folder_empty;
+          bytes_few = all.0.bytes_few;
         },
         more,
       )
@@ -270,7 +276,7 @@ pub IsTree-after_rename : (source target : List (List ℕ)) (tree : List TreeEnt
 IsTree-after_rename source target tree m =
     record {
       in_order = AreInOrder-ordered (moved source target (without target tree)) (AreApart-moved source target tree tree m m.is_tree.all_belong m.is_tree.in_order);
-      all_belong = AllBelongIn-ordered (after_rename source target tree) (moved source target (without target tree)) (AllBelongIn-moved source target tree tree m m.is_tree.all_belong);
+      all_belong = AllBelongIn-ordered (after_rename source target tree) (moved source target (without target tree)) (AllBelongIn-moved source target tree tree m m.shallow m.is_tree.all_belong);
     }
 
 -- ---- sizes

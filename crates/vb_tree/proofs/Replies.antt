@@ -1,5 +1,5 @@
 -- What an operation that is refused, or isn't, answers and leaves.
-use Rattle.std.proofs.Common.{◌≡◌, List, Option, Some, None, ap, ◌∙◌}
+use Rattle.std.proofs.Common.{◌≡◌, List, Some, None, ap, ◌∙◌}
 use Rattle.vb_tree.specs.declared.tree.Limits.{Limits}
 use Rattle.vb_tree.specs.declared.tree.TreeEntry.{TreeEntry}
 use Rattle.vb_tree.specs.declared.operation.Op.{Op}

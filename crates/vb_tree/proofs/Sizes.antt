@@ -6,7 +6,7 @@ use Rattle.std.specs.List.{sum_by}
 use Rattle.vb_tree.specs.declared.tree.Limits.{Limits}
 use Rattle.vb_tree.specs.declared.tree.TreeEntry.{TreeEntry}
 use Rattle.vb_path.specs.Paths.{same_path}
-use Rattle.vb_tree.specs.Trees.{entry_at, bytes_in, with_bytes_at, pages_of_length, page_count, pages_with}
+use Rattle.vb_tree.specs.Trees.{with_bytes_at, pages_of_length, page_count, pages_with}
 use Rattle.vb_tree.specs.Contents.{written_over, new_length, truncated_to}
 use Rattle.vb_tree.specs.Refusals.{refuse_length, refuse_resize}
 use Rattle.vb_tree.proofs.Lookups.{entry_at-place, length_at-place}

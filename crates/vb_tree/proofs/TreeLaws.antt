@@ -1,5 +1,5 @@
 -- What a new entry, and other bytes of a file, do to a tree.
-use Rattle.std.proofs.Common.{◌≡◌, ℕ, Bool, true, false, cond, List, [], ◌∷◌, Option, Some, None, inl, inr, refl, sym, ap, ◌∙◌, subst}
+use Rattle.std.proofs.Common.{◌≡◌, ℕ, Bool, true, false, cond, List, [], ◌∷◌, length, ◌≤◌, Option, Some, None, inl, inr, refl, sym, ap, ◌∙◌, subst}
 use Rattle.std.specs.Option.{option_map}
 use Rattle.std.specs.Ordering.{is_lt}
 use Rattle.std.specs.declared.cmp.Ordering.TheVariants.{Less}
@@ -8,7 +8,7 @@ use Rattle.vb_tree.specs.declared.tree.Kind.{Kind}
 use Rattle.vb_tree.specs.declared.tree.Kind.TheVariants.{Folder, File}
 use Rattle.vb_tree.specs.declared.tree.TreeEntry.{TreeEntry}
 use Rattle.vb_path.specs.Paths.{same_path, path_cmp}
-use Rattle.vb_tree.specs.Trees.{is_root, entry_at, kind_at, insert_entry, with_bytes_at, AllAfter, AreInOrder, parent_of, BelongsIn, AllBelongIn, IsTree}
+use Rattle.vb_tree.specs.Trees.{longest_file, is_root, entry_at, kind_at, insert_entry, with_bytes_at, AllAfter, AreInOrder, parent_of, BelongsIn, AllBelongIn, IsTree}
 use Rattle.vb_path.proofs.PathLaws.{path_cmp-total, same_path-Decides, after-path, before-path}
 
 -- ---- order
@@ -88,11 +88,22 @@ AllBelongIn-insert tree new (e ∷ es) h all =
       | false ↦ (all.0, AllBelongIn-insert tree new es h all.1)
     ]
 
+-- what belonged still does where its parent is a folder
+pub BelongsIn-kept : (tree after : List TreeEntry) (e : TreeEntry) → kind_at (parent_of e.path) after ≡ Some Folder → BelongsIn tree e → BelongsIn after e
+BelongsIn-kept tree after e parent belongs =
+    record {
+      path_valid = belongs.path_valid;
+      below_root = belongs.below_root;
+      parent_there = parent;
+      folder_empty = belongs.folder_empty;
+      bytes_few = belongs.bytes_few;
+    }
+
 -- what belonged still does, where every folder that was there still is
 AllBelongIn-kept : (tree after es : List TreeEntry) → ((path : List (List ℕ)) → kind_at path tree ≡ Some Folder → kind_at path after ≡ Some Folder) → AllBelongIn tree es → AllBelongIn after es
 AllBelongIn-kept tree after [] keeps all = tt
 AllBelongIn-kept tree after (e ∷ es) keeps all =
-    (record { below_root = all.0.below_root; parent_there = keeps (parent_of e.path) all.0.parent_there; folder_empty = all.0.folder_empty }, AllBelongIn-kept tree after es keeps all.1)
+    (BelongsIn-kept tree after e (keeps (parent_of e.path) all.0.parent_there) all.0, AllBelongIn-kept tree after es keeps all.1)
 
 -- a new entry that belongs into a tree, at a path at which nothing stands, leaves a tree
 pub IsTree-insert : (new : TreeEntry) (tree : List TreeEntry) → entry_at new.path tree ≡ None → BelongsIn tree new → IsTree tree → IsTree (insert_entry new tree)
@@ -138,20 +149,29 @@ abbrev pub HasFile : Option TreeEntry → Type 0
 HasFile None = ⊥
 HasFile (Some e) = e.kind ≡ File
 
-AllBelongIn-with_bytes_at : (tree : List TreeEntry) (path : List (List ℕ)) (bytes : List ℕ) (es : List TreeEntry) → HasFile (entry_at path es) → AllBelongIn tree es → AllBelongIn tree (with_bytes_at path bytes es)
-AllBelongIn-with_bytes_at tree path bytes [] h all = tt
-AllBelongIn-with_bytes_at tree path bytes (e ∷ es) h all =
+AllBelongIn-with_bytes_at : (tree : List TreeEntry) (path : List (List ℕ)) (bytes : List ℕ) (es : List TreeEntry) → length bytes ≤ longest_file → HasFile (entry_at path es) → AllBelongIn tree es → AllBelongIn tree (with_bytes_at path bytes es)
+AllBelongIn-with_bytes_at tree path bytes [] few h all = tt
+AllBelongIn-with_bytes_at tree path bytes (e ∷ es) few h all =
     elim (same_path path e.path) as (λ v. HasFile (cond v (Some e) (entry_at path es)) → AllBelongIn tree (cond v (record e { bytes = bytes } ∷ es) (e ∷ with_bytes_at path bytes es))) [
-      | true ↦ λ file. (record { below_root = all.0.below_root; parent_there = all.0.parent_there; folder_empty = λ folder. absurd (different (sym file ∙ folder)) }, all.1)
-      | false ↦ λ file. (all.0, AllBelongIn-with_bytes_at tree path bytes es file all.1)
+      | true ↦ λ file. (
+        record {
+          path_valid = all.0.path_valid;
+          below_root = all.0.below_root;
+          parent_there = all.0.parent_there;
+          folder_empty = λ folder. absurd (different (sym file ∙ folder));
+          bytes_few = few;
+        },
+        all.1,
+      )
+      | false ↦ λ file. (all.0, AllBelongIn-with_bytes_at tree path bytes es few file all.1)
     ] h where
       different : File ≡ Folder → ⊥
       different e = cc
 
 -- other bytes of a file leave a tree
-pub IsTree-with_bytes_at : (path : List (List ℕ)) (bytes : List ℕ) (tree : List TreeEntry) → HasFile (entry_at path tree) → IsTree tree → IsTree (with_bytes_at path bytes tree)
-IsTree-with_bytes_at path bytes tree file is =
+pub IsTree-with_bytes_at : (path : List (List ℕ)) (bytes : List ℕ) (tree : List TreeEntry) → length bytes ≤ longest_file → HasFile (entry_at path tree) → IsTree tree → IsTree (with_bytes_at path bytes tree)
+IsTree-with_bytes_at path bytes tree few file is =
     record {
       in_order = AreInOrder-with_bytes_at path bytes tree is.in_order;
-      all_belong = AllBelongIn-kept tree (with_bytes_at path bytes tree) (with_bytes_at path bytes tree) (λ q h. kind_at-with_bytes_at path q bytes tree ∙ h) (AllBelongIn-with_bytes_at tree path bytes tree file is.all_belong);
+      all_belong = AllBelongIn-kept tree (with_bytes_at path bytes tree) (with_bytes_at path bytes tree) (λ q h. kind_at-with_bytes_at path q bytes tree ∙ h) (AllBelongIn-with_bytes_at tree path bytes tree few file is.all_belong);
     }

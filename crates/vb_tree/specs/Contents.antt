@@ -1,5 +1,7 @@
--- Contents: what a write, a truncate and a read make of a file's bytes.
-use Rattle.std.specs.Prelude.{ℕ, ◌+◌, ◌-◌, max, ◌==◌, if◌then◌else◌, List, ◌++◌, length, take, drop, replicate}
+-- Contents: what a write, a truncate and a read make of a file's bytes, and their pages.
+use Rattle.std.specs.Prelude.{ℕ, ◌+◌, ◌-◌, ◌*◌, max, ◌==◌, if◌then◌else◌, List, ◌++◌, length, take, drop, replicate, map}
+use Rattle.std.specs.List.{flat_map, range_with_len}
+use Rattle.vb_tree.specs.Trees.{data_pages_of}
 
 -- the bytes after a write at an offset: a gap past the end is filled with zeros, and a write of no bytes changes nothing
 abbrev pub written_over : ℕ → List ℕ → List ℕ → List ℕ
@@ -17,3 +19,15 @@ truncated_to len old = take len old ++ replicate (len - length old) 0
 -- the bytes from an offset on, at most so many
 abbrev pub part_of : ℕ → ℕ → List ℕ → List ℕ
 part_of offset most bytes = take most (drop offset bytes)
+
+-- the k-th page of the bytes, counted from 0, filled up with zeros past their end
+abbrev pub page_of : List ℕ → ℕ → List ℕ
+page_of bytes k = truncated_to 4096 (drop (4096 * k) bytes)
+
+-- the pages of the bytes, in order: as many as their length takes
+abbrev pub pages_of : List ℕ → List (List ℕ)
+pages_of bytes = map (page_of bytes) (range_with_len 0 (data_pages_of (length bytes)))
+
+-- the bytes that pages hold, where a file has so many of them
+abbrev pub bytes_held : ℕ → List (List ℕ) → List ℕ
+bytes_held len pages = take len (flat_map (λ page. page) pages)

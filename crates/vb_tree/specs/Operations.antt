@@ -1,5 +1,6 @@
 -- Operations: what each answers, and the tree that it leaves.
 use Rattle.std.specs.Prelude.{ℕ, ◌^◌, ◌<◌, ◌≤◌, Bool, true, false, if◌then◌else◌, List, [], length, unwrap_or, Option, Some, None}
+use Rattle.vb_path.specs.Paths.{IsPath}
 use Rattle.vb_tree.specs.declared.tree.Kind.{Kind}
 use Rattle.vb_tree.specs.declared.tree.Kind.TheVariants.{Folder, File}
 use Rattle.vb_tree.specs.declared.tree.Limits.{Limits}
@@ -26,6 +27,19 @@ IsInRange (RemoveDir path) = Unit {0}
 IsInRange (Read path offset len) = (offset < 2 ^ 63) × (len ≤ 65536)
 IsInRange (Listing path) = Unit {0}
 IsInRange (Stat path) = Unit {0}
+
+-- the paths of the operation are paths
+abbrev pub HasPaths : Op → Type 0
+HasPaths (Create path) = IsPath path
+HasPaths (MakeDir path) = IsPath path
+HasPaths (Write path offset bytes) = IsPath path
+HasPaths (Truncate path len) = IsPath path
+HasPaths (Rename source target) = IsPath source × IsPath target
+HasPaths (Remove path) = IsPath path
+HasPaths (RemoveDir path) = IsPath path
+HasPaths (Read path offset len) = IsPath path
+HasPaths (Listing path) = IsPath path
+HasPaths (Stat path) = IsPath path
 
 -- a kind and a length: a folder has the length 0
 abbrev pub info_of : Kind → ℕ → Reply

@@ -9,13 +9,9 @@ use Rattle.vb_tree.specs.declared.operation.Op.TheVariants.{Create, MakeDir, Wri
 use Rattle.vb_tree.specs.declared.reply.Refusal.{Refusal}
 use Rattle.vb_tree.specs.declared.reply.Refusal.TheVariants.{RootFixed, NoEntry, NoParent, ParentNotDir, Exists, NotAFile, NotADir, NotEmpty, IntoItself, DeepTree, TooLong, TooManyNodes, NoSpace}
 use Rattle.vb_path.specs.Paths.{same_path}
-use Rattle.vb_tree.specs.Trees.{is_root, kind_at, length_at, is_folder, is_file, has_entries, page_count, pages_with, node_count}
+use Rattle.vb_tree.specs.Trees.{longest_file, is_root, kind_at, length_at, is_folder, is_file, has_entries, page_count, pages_with, node_count}
 use Rattle.vb_tree.specs.Contents.{new_length}
 use Rattle.vb_tree.specs.Renames.{is_within, makes_deep}
-
--- the greatest length of a file
-abbrev pub longest_file : ℕ
-longest_file = 44433408
 
 -- the reason where the test holds, and else what comes next
 abbrev pub refuse : Bool → Refusal → Option Refusal → Option Refusal

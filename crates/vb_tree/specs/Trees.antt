@@ -9,7 +9,7 @@ use Rattle.vb_tree.specs.declared.tree.Kind.{Kind}
 use Rattle.vb_tree.specs.declared.tree.Kind.TheVariants.{Folder, File}
 use Rattle.vb_tree.specs.declared.tree.Limits.{Limits}
 use Rattle.vb_tree.specs.declared.tree.TreeEntry.{TreeEntry}
-use Rattle.vb_path.specs.Paths.{same_path, path_cmp}
+use Rattle.vb_path.specs.Paths.{same_path, path_cmp, IsPath}
 
 -- a tree and its limits
 pub record LimitedTree : Type 0 where
@@ -107,6 +107,10 @@ pages_with path len tree = page_count tree - pages_of_length (length_at path tre
 abbrev pub node_count : List TreeEntry → ℕ
 node_count tree = length tree + 1
 
+-- the greatest length of a file
+abbrev pub longest_file : ℕ
+longest_file = 44433408
+
 -- limits that a store may have
 pub record AreInLimits (limits : Limits) : Type 0 where
   pub least_nodes : 16 ≤ limits.nodes
@@ -130,11 +134,14 @@ abbrev pub AreInOrder : List TreeEntry → Type 0
 AreInOrder [] = Unit {0}
 AreInOrder (e ∷ es) = AllAfter e.path es × AreInOrder es
 
--- an entry belongs into a tree: it isn't the root, its parent is a folder there, and a folder has no bytes
+-- an entry belongs into a tree: its path is a path and not the root, its parent is a folder there, a folder has no bytes,
+-- and a file has at most 44,433,408 bytes
 pub record BelongsIn (tree : List TreeEntry) (e : TreeEntry) : Type 0 where
+  pub path_valid : IsPath e.path
   pub below_root : is_root e.path ≡ false
   pub parent_there : kind_at (parent_of e.path) tree ≡ Some Folder
   pub folder_empty : e.kind ≡ Folder → e.bytes ≡ []
+  pub bytes_few : length e.bytes ≤ longest_file
 
 -- each of these entries belongs into a tree
 abbrev pub AllBelongIn : List TreeEntry → List TreeEntry → Type 0

@@ -5,7 +5,7 @@ ghost use Rattle.vb_tree.specs.declared.operation.Op.{Op};
 ghost use Rattle.vb_tree.specs.declared.tree.Limits.{Limits};
 ghost use Rattle.vb_tree.specs.Trees.{insert_entry, page_count};
 ghost use Rattle.vb_tree.specs.Refusals.{refusal_of};
-ghost use Rattle.vb_tree.specs.Operations.{IsInRange, reply_of, tree_after};
+ghost use Rattle.vb_tree.specs.Operations.{HasPaths, IsInRange, reply_of, tree_after};
 
 use crate::checks::{check_folder, check_new, find_file};
 use crate::contents::{resize_at, write_at};
@@ -46,6 +46,7 @@ pub(crate) fn create(
         (λ reply. reply ≡ reply_of limits entries.old.items (Op.Create path.now)) }
     ensures tree { OnOk result
         (entries.new.items ≡ tree_after limits entries.old.items (Op.Create path.now)) }
+    ensures paths { HasPaths (Op.Create path.now) }
     ensures err { OnErr result (entries.new.items ≡ entries.old.items) }
 {
     if let Err(reason) = check_new(limits, entries, path.parts()) {
@@ -67,6 +68,7 @@ pub(crate) fn make_dir(
         (λ reply. reply ≡ reply_of limits entries.old.items (Op.MakeDir path.now)) }
     ensures tree { OnOk result
         (entries.new.items ≡ tree_after limits entries.old.items (Op.MakeDir path.now)) }
+    ensures paths { HasPaths (Op.MakeDir path.now) }
     ensures err { OnErr result (entries.new.items ≡ entries.old.items) }
 {
     if let Err(reason) = check_new(limits, entries, path.parts()) {

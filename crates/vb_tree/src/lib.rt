@@ -18,7 +18,7 @@ mod reply;
 mod room;
 mod tree;
 
-pub use laws::{names_are_in_order, operations_keep_trees};
+pub use laws::{names_are_in_order, operations_keep_trees, pages_hold_bytes};
 pub use lengths::{LONGEST_FILE, map_pages_of, pages_of};
 pub use operation::Op;
 pub use plain::Plain;

@@ -3,8 +3,9 @@ ghost use Rattle.std.specs.Prelude.{◌≡◌, ◌++◌, ◌&&◌, true, false, 
 ghost use Rattle.vb_tree.specs.Trees.{is_root};
 ghost use Rattle.vb_tree.specs.Renames.{is_within, is_deep, moved_path, path_after};
 
-use crate::{Bytes, Path, TreeEntry};
+use crate::{Bytes, Names, Path, TreeEntry};
 use std::alloc::{AllocError, Global};
+use vb_path::copy_names;
 
 const MOST_BYTES: usize = 1024;
 
@@ -33,30 +34,27 @@ pub(crate) fn is_too_deep(path: &Path, source: &Path, target: &Path) -> bool
     bytes > MOST_BYTES || parts > MOST_PARTS
 }
 
-/// Two lists of bytes, one behind the other.
-fn joined(alloc: Global, front: &[u8], back: &[u8]) -> Result<Bytes, AllocError>
-    ensures { IfOk result (λ bytes. bytes ≡ front.now ++ back.now) }
+/// Two lists of names, one behind the other.
+fn joined(alloc: Global, front: &[Bytes], back: &[Bytes]) -> Result<Names, AllocError>
+    ensures { IfOk result (λ names. names ≡ front.now ++ back.now) }
 {
-    let mut bytes = Bytes::of(alloc, front)?;
-    bytes.extend(back)?;
-    Ok(bytes)
+    let mut names = copy_names(alloc, front)?;
+    for name in back {
+        names.add(Bytes::of(alloc, name.slice())?)?;
+    }
+    Ok(names)
 }
 
-/// The path to which a path at or below the source leads.
-#[tactic(auto, using(crate::proofs::MovedPaths::within_texts))]
+/// The path to which a path at or below the source leads. It isn't too deep.
+#[tactic(auto, using(crate::proofs::MovedPaths::moved_parts))]
 fn moved(alloc: Global, path: &Path, source: &Path, target: &Path) -> Result<Path, AllocError>
     requires path_in { is_within source.now path.now ≡ true }
-    requires source_in { is_root source.now ≡ false }
-    requires target_in { is_root target.now ≡ false }
+    requires shallow { is_deep (moved_path source.now target.now path.now) ≡ false }
     ensures { IfOk result (λ after. after ≡ moved_path source.now target.now path.now) }
 {
-    let start = source.text().len();
-    let old = path.text();
-    let text = joined(alloc, target.text(), &old[start..])?;
-    match Path::parse(alloc, text.slice()) {
-        Ok(path) => Ok(path),
-        Err(_) => Err(AllocError),
-    }
+    let below = &path.parts()[source.parts().len()..];
+    let parts = joined(alloc, target.parts(), below)?;
+    Path::of_parts(alloc, parts)
 }
 
 /// The entry at its path after the rename.
@@ -66,8 +64,8 @@ pub(crate) fn moved_entry(
     source: &Path,
     target: &Path,
 ) -> Result<TreeEntry, AllocError>
-    requires source_in { is_root source.now ≡ false }
-    requires target_in { is_root target.now ≡ false }
+    requires { (is_within source.now entry.now.path
+        && is_deep (moved_path source.now target.now entry.now.path)) ≡ false }
     ensures { IfOk result (λ after. after
         ≡ record entry.now { path = path_after source.now target.now entry.now.path }) }
 {

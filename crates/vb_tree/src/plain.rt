@@ -1,7 +1,7 @@
 // The plain tree: a list of entries in path order, on which each operation is played as its meaning says.
 ghost use Rattle.std.specs.Prelude.{◌≡◌, ◌<◌, [], length, IfOk, OnOk, OnErr, slice_get, Some};
 ghost use Rattle.vb_tree.specs.Trees.{LimitedTree, AreInLimits, IsTree, IsWithin};
-ghost use Rattle.vb_tree.specs.Operations.{IsInRange, reply_of, tree_after};
+ghost use Rattle.vb_tree.specs.Operations.{HasPaths, IsInRange, reply_of, tree_after};
 
 use crate::play::play;
 use crate::{Kind, Limits, Op, Path, Reply, TreeEntry};
@@ -37,6 +37,15 @@ impl Plain {
         }
     }
 
+    /// The tree of these entries under these limits.
+    pub fn of(limits: Limits, entries: Vec<TreeEntry>) -> Plain
+        requires tree_in { IsTree entries.items }
+        requires within { IsWithin limits entries.items }
+        ensures { result ≡ record { limits = limits; tree = entries.items } }
+    {
+        Plain { limits, entries }
+    }
+
     /// Plays an operation, and answers its reply. Where the reply isn't Done, the tree stays.
     #[tactic(auto, using(crate::proofs::Allowed::keeps))]
     pub fn perform(&mut self, alloc: Global, op: &Op) -> Result<Reply, AllocError>
@@ -44,6 +53,7 @@ impl Plain {
         ensures reply { IfOk result (λ reply. reply ≡ reply_of self.old.limits self.old.tree op.now) }
         ensures tree { OnOk result (self.new ≡ record self.old { tree = tree_after self.old.limits self.old.tree op.now }) }
         ensures err { OnErr result (self.new ≡ self.old) }
+        ensures paths { HasPaths op.now }
     {
         play(self.limits, &mut self.entries, alloc, op)
     }

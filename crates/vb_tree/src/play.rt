@@ -2,7 +2,7 @@
 ghost use Rattle.std.specs.Prelude.{◌≡◌, ◌^◌, ◌<◌, vec_len, IfOk, OnOk, OnErr};
 ghost use Rattle.vb_tree.specs.declared.operation.Op.{Op};
 ghost use Rattle.vb_tree.specs.Trees.{page_count};
-ghost use Rattle.vb_tree.specs.Operations.{IsInRange, reply_of, tree_after};
+ghost use Rattle.vb_tree.specs.Operations.{HasPaths, IsInRange, reply_of, tree_after};
 
 use crate::changes::{create, make_dir, remove_dir, remove_file, truncate, write};
 use crate::looks::{list, read, stat};
@@ -23,6 +23,7 @@ pub(crate) fn play(
     ensures reply { IfOk result (λ reply. reply ≡ reply_of limits entries.old.items op.now) }
     ensures tree { OnOk result (entries.new.items ≡ tree_after limits entries.old.items op.now) }
     ensures err { OnErr result (entries.new.items ≡ entries.old.items) }
+    ensures paths { HasPaths op.now }
 {
     match op {
         Op::Create { path } => create(limits, entries, alloc, path),

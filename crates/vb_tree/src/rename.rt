@@ -3,10 +3,11 @@ ghost use Rattle.std.specs.Prelude.{◌≡◌, false, Some, IfOk, OnOk, OnErr};
 ghost use Rattle.std.specs.Result.{result_err};
 ghost use Rattle.vb_tree.specs.declared.operation.Op.{Op};
 ghost use Rattle.vb_tree.specs.declared.tree.Limits.{Limits};
+ghost use Rattle.vb_path.specs.Paths.{same_path, IsPath};
 ghost use Rattle.vb_tree.specs.Trees.{is_root, kind_at, without};
 ghost use Rattle.vb_tree.specs.Refusals.{refuse_move, refusal_of};
 ghost use Rattle.vb_tree.specs.Renames.{makes_deep, moved, in_path_order, renamed};
-ghost use Rattle.vb_tree.specs.Operations.{reply_of, tree_after};
+ghost use Rattle.vb_tree.specs.Operations.{HasPaths, reply_of, tree_after};
 
 use crate::checks::{check_way, find_kind};
 use crate::entries::{insert, kind_of};
@@ -38,7 +39,8 @@ fn check_move(
     requires kind_in { kind_at source.now entries.now ≡ Some kind }
     requires source_in { is_root source.now ≡ false }
     requires target_in { is_root target.now ≡ false }
-    ensures { refuse_move entries.now source.now target.now ≡ result_err result }
+    ensures refused { refuse_move entries.now source.now target.now ≡ result_err result }
+    ensures shallow { OnOk result (makes_deep source.now target.now entries.now ≡ false) }
 {
     if kind == Kind::Folder && is_within(source.parts(), target.parts()) {
         return Err(Refusal::IntoItself);
@@ -60,11 +62,15 @@ fn check_rename(entries: &[TreeEntry], source: &Path, target: &Path) -> Result<(
         → refusal_of limits entries.now (Op.Rename source.now target.now) ≡ result_err result }
     ensures source { OnOk result (is_root source.now ≡ false) }
     ensures target { OnOk result (is_root target.now ≡ false) }
+    ensures shallow { OnOk result (same_path source.now target.now ≡ false
+        → makes_deep source.now target.now entries.now ≡ false) }
+    ensures paths { IsPath source.now × IsPath target.now }
 {
-    if source.parts().is_empty() || target.parts().is_empty() {
+    let (from, to) = (source.parts(), target.parts());
+    if from.is_empty() || to.is_empty() {
         return Err(Refusal::RootFixed);
     }
-    let kind = find_kind(entries, source.parts())?;
+    let kind = find_kind(entries, from)?;
     if source == target {
         return Ok(());
     }
@@ -78,8 +84,7 @@ fn moved_entries(
     source: &Path,
     target: &Path,
 ) -> Result<Vec<TreeEntry>, AllocError>
-    requires source_in { is_root source.now ≡ false }
-    requires target_in { is_root target.now ≡ false }
+    requires { makes_deep source.now target.now entries.now ≡ false }
     ensures { IfOk result (λ after. after.items
         ≡ in_path_order (moved source.now target.now (without target.now entries.now))) }
 {
@@ -102,8 +107,8 @@ fn move_entries(
     source: &Path,
     target: &Path,
 ) -> Result<(), AllocError>
-    requires source_in { is_root source.now ≡ false }
-    requires target_in { is_root target.now ≡ false }
+    requires { same_path source.now target.now ≡ false
+        → makes_deep source.now target.now entries.old.items ≡ false }
     ensures ok { OnOk result (entries.new.items ≡ renamed source.now target.now entries.old.items) }
     ensures err { OnErr result (entries.new.items ≡ entries.old.items) }
 {
@@ -125,6 +130,7 @@ pub(crate) fn rename(
         (λ reply. reply ≡ reply_of limits entries.old.items (Op.Rename source.now target.now)) }
     ensures tree { (limits : Limits) → OnOk result
         (entries.new.items ≡ tree_after limits entries.old.items (Op.Rename source.now target.now)) }
+    ensures paths { HasPaths (Op.Rename source.now target.now) }
     ensures err { OnErr result (entries.new.items ≡ entries.old.items) }
 {
     match check_rename(entries, source, target) {

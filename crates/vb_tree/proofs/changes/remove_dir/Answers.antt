@@ -1,6 +1,5 @@
 use Rattle.std.proofs.Common.{◌≡◌, Some, None, refl, sym, ◌∙◌, subst}
 use Rattle.vb_tree.specs.declared.operation.Op.TheVariants.{RemoveDir}
-use Rattle.vb_tree.specs.Trees.{without}
 use Rattle.vb_tree.specs.Refusals.{refusal_of}
 use Rattle.vb_tree.proofs.Replies.{reply_of-allowed, reply_of-refused, tree_after-allowed, tree_after-refused}
 use Rattle.vb_tree.proofs.changes.remove_dir.Goals as goal

@@ -1,4 +1,4 @@
-use Rattle.std.proofs.Common.{◌≡◌, ◌+◌, ◌-◌, ◌<◌, ◌≤◌, length, take, drop, Some, sym, ap, ◌∙◌, arith}
+use Rattle.std.proofs.Common.{◌≡◌, ◌+◌, ◌-◌, ◌<◌, length, take, drop, Some, sym, ap, ◌∙◌, arith}
 use Rattle.vb_tree.specs.declared.tree.Kind.TheVariants.{Folder}
 use Rattle.vb_tree.specs.Trees.{kind_at}
 use Rattle.vb_tree.specs.Refusals.{refuse_step, refuse_rest}

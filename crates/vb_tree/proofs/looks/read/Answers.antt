@@ -1,4 +1,4 @@
-use Rattle.std.proofs.Common.{◌≡◌, None, refl, sym, ap, ◌∙◌}
+use Rattle.std.proofs.Common.{None, sym, ap, ◌∙◌}
 use Rattle.vb_tree.specs.declared.operation.Op.TheVariants.{Read}
 use Rattle.vb_tree.specs.declared.reply.Reply.TheVariants.{Bytes}
 use Rattle.vb_tree.specs.Contents.{part_of}

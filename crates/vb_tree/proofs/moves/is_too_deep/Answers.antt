@@ -29,7 +29,7 @@ returns-else-bytes-gt-MOST_BYTES c =
     omega (arith, length-moved source target path c.requires.source_in c.requires.target_in within, ap length c.text.ensures.spelled, ap length c.text-2.ensures.spelled, ap length c.text-3.ensures.spelled) in
     let after = moved_path source target path in
     let parts : length c.parts-3.result.now + length c.parts-4.result.now - length c.parts-5.result.now ≡ length after =
-    omega (arith, parts-moved source target path within, ap length c.parts-3.ensures, ap length c.parts-4.ensures, ap length c.parts-5.ensures) in
+    omega (arith, parts-moved source target path within, ap length c.parts-3.ensures.same, ap length c.parts-4.ensures.same, ap length c.parts-5.ensures.same) in
     let short : length (text_of_path after) ≤ 1024 = omega arith in
     ap (nat_lt 32) parts
     ∙ or_right 1024 (length (text_of_path after)) (nat_lt 32 (length after)) short

@@ -1,4 +1,4 @@
-use Rattle.std.proofs.Common.{◌≡◌, suc, ◌-◌, ◌<◌, ◌≤◌, length, true, false, sym, ap, ◌∙◌, arith}
+use Rattle.std.proofs.Common.{◌≡◌, suc, ◌-◌, ◌<◌, length, true, false, sym, ap, ◌∙◌, arith}
 use Rattle.vb_path.specs.Paths.{same_path}
 use Rattle.vb_tree.specs.Trees.{insert_entry}
 use Rattle.vb_tree.specs.Renames.{path_after}
