@@ -1,5 +1,5 @@
 -- Histories: the folder after one, and what survives of it where something was cut.
-use Rattle.std.specs.Prelude.{◌≡◌, ℕ, Bool, true, false, ◌||◌, ◌==◌, if◌then◌else◌, IsTrue, List, [], ◌∷◌, ◌++◌, length, drop}
+use Rattle.std.specs.Prelude.{◌≡◌, ℕ, Bool, true, false, not, ◌||◌, ◌==◌, if◌then◌else◌, IsTrue, List, [], ◌∷◌, ◌++◌, length, drop}
 use Rattle.std.specs.List.{fold, filter, list_any, AllByRecursion}
 use Rattle.vb_tree.specs.declared.tree.TreeEntry.{TreeEntry}
 use Rattle.vb_tree.specs.Operations.{tree_after_reply}
@@ -43,6 +43,10 @@ abbrev pub is_cut : Entry → Bool
 is_cut (Cut epoch limits) = true
 is_cut other = false
 
+-- whether a cut keeps it where it stands behind the freeze that the cut goes back to: what the cloud shows isn't undone
+abbrev pub outlives_cut : Entry → Bool
+outlives_cut entry = is_publication entry
+
 -- the entries up to the freeze of an epoch, that one included; all of them where that freeze isn't there
 abbrev pub up_to_freeze : ℕ → List Entry → List Entry
 up_to_freeze epoch [] = []
@@ -56,15 +60,19 @@ up_to_epoch start epoch line = if epoch == start then [] else up_to_freeze epoch
 abbrev pub IsFrozenAt : ℕ → ℕ → List Entry → Type 0
 IsFrozenAt start epoch line = IsTrue ((epoch == start) || list_any (is_freeze_of epoch) line)
 
--- what survives after one more entry: a cut takes away what follows the freeze that it goes back to, except publications
+-- what survives after one more entry: a cut takes away what follows the freeze that it goes back to, except what outlives it
 abbrev pub survivors_after : ℕ → List Entry → Entry → List Entry
 survivors_after start line (Cut epoch limits) =
-    up_to_epoch start epoch line ++ Cut epoch limits ∷ filter is_publication (drop (length (up_to_epoch start epoch line)) line)
+    up_to_epoch start epoch line ++ Cut epoch limits ∷ filter outlives_cut (drop (length (up_to_epoch start epoch line)) line)
 survivors_after start line other = line ++ other ∷ []
 
 -- what survives of a history, from a start epoch on
 abbrev pub surviving : ℕ → List Entry → List Entry
 surviving start history = fold (survivors_after start) [] history
+
+-- the entries but for cuts and what outlives them, none of which touches the tree
+abbrev pub apart_from_cuts : List Entry → List Entry
+apart_from_cuts history = filter (λ entry. not (is_cut entry || outlives_cut entry)) history
 
 -- nothing was cut
 abbrev pub HasNoCut : List Entry → Type 0

@@ -6,9 +6,9 @@ use Rattle.vb_tree.specs.declared.tree.TreeEntry.{TreeEntry}
 use Rattle.vb_tree.specs.Operations.{reply_of}
 use Rattle.vb_hist.specs.declared.entry.Entry.{Entry}
 use Rattle.vb_hist.specs.declared.entry.Entry.TheVariants.{Call, Freeze, FreezeBusy, Commit, Rest, Publish, Doubt, Dropped, End, Cut}
-use Rattle.vb_hist.specs.declared.entry.Stage.{Stage}
 use Rattle.vb_hist.specs.declared.entry.Stage.TheVariants.{Rested, Written, Committed}
-use Rattle.vb_hist.specs.Histories.{folder_after, surviving, survivors_after, up_to_epoch}
+use Rattle.vb_hist.specs.declared.marks.Marks.{Marks}
+use Rattle.vb_hist.specs.Histories.{IsFrozenAt, folder_after, surviving, survivors_after, up_to_epoch}
 
 -- where a history begins: the limits, the tree and its epoch, what the cloud shows, and the devices' counts of faults
 pub record Opening : Type 0 where
@@ -19,16 +19,6 @@ pub record Opening : Type 0 where
   pub published_tree : List TreeEntry
   pub disk_faults : ℕ
   pub link_faults : ℕ
-
--- what the entries so far amount to: the last epoch, the epoch of the view that stands, how far its commit is,
--- the epoch whose publication is in doubt, the published epoch, and the limits in force
-pub record Marks : Type 0 where
-  pub last : ℕ
-  pub standing : Option ℕ
-  pub stage : Stage
-  pub doubt : Option ℕ
-  pub published : ℕ
-  pub limits : Limits
 
 -- the epoch where it is above the published one, since its view then waits to be published
 abbrev pub waiting_view : ℕ → ℕ → Option ℕ
@@ -79,6 +69,11 @@ MayFollow m folder (End writer) = Unit {0}
 MayFollow m folder (Cut epoch limits) =
     (epoch ≡ m.last) ⊎ (((epoch + 1 ≡ m.last) × (m.stage ≡ Written)) ⊎ ((epoch ≡ m.published) ⊎ (m.doubt ≡ Some epoch)))
 
+-- a cut goes back to the start, or to an epoch whose freeze survives
+abbrev pub GoesBackToFreeze : ℕ → List Entry → Entry → Type 0
+GoesBackToFreeze start line (Cut epoch limits) = IsFrozenAt start epoch line
+GoesBackToFreeze start line other = Unit {0}
+
 -- the marks after what survives of a history
 abbrev pub marks_of : Opening → List Entry → Marks
 marks_of o history = fold marks_after (marks_at_start o) (surviving o.start history)
@@ -91,13 +86,14 @@ folder_of o history = folder_after o.base (surviving o.start history)
 abbrev pub folder_at : Opening → List Entry → ℕ → List TreeEntry
 folder_at o history epoch = folder_after o.base (up_to_epoch o.start epoch (surviving o.start history))
 
--- each of the entries may follow what survives of those before it
+-- each of the entries may follow what survives of those before it, and a cut goes back to a freeze that is there
 abbrev pub AreLegalAfter : Opening → List Entry → List Entry → Type 0
 AreLegalAfter o line [] = Unit {0}
 AreLegalAfter o line (entry ∷ entries) =
     MayFollow (fold marks_after (marks_at_start o) line) (folder_after o.base line) entry
+    × GoesBackToFreeze o.start line entry
     × AreLegalAfter o (survivors_after o.start line entry) entries
 
--- each entry may follow the marks and the folder of the entries before it
+-- each entry may follow the marks and the folder of the entries before it, and each cut goes back to a freeze that survives
 abbrev pub IsLegal : Opening → List Entry → Type 0
 IsLegal o history = AreLegalAfter o [] history

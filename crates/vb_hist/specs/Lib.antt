@@ -1,4 +1,10 @@
+pub mod Cuts
+pub mod Epochs
 pub mod Histories
 pub mod Legal
 pub mod Makers
+pub mod Merges
 pub mod Quiet
+pub mod Openings
+pub mod Held
+pub mod Worked

@@ -27,3 +27,25 @@ fn entries_are_kept_in_order(rt: HostRuntime) -> Result<(), Fail> {
     assert_eq!(rt; history.spare(), 1);
     Ok(())
 }
+
+#[test]
+fn a_cut_keeps_a_publication(rt: HostRuntime) -> Result<(), Fail> {
+    let alloc = rt.alloc();
+    let limits = Limits {
+        pages: 2,
+        nodes: 16,
+    };
+    let mut history = History::new(alloc);
+    history.reserve(4)?;
+    history.push(Entry::Freeze { by: 1, epoch: 1 });
+    history.push(Entry::Commit { epoch: 1 });
+    history.push(Entry::Publish { epoch: 1 });
+    history.push(Entry::Cut { epoch: 1, limits });
+    let line = surviving_entries(alloc, 0, history.entries())?;
+    assert_eq!(rt; line.len(), 3);
+    assert_eq!(rt; line[2], Entry::Publish { epoch: 1 });
+    let marks = Marks::at_start(limits, 0, 0).after_all(line.as_slice());
+    assert_eq!(rt; marks.standing, None);
+    assert_eq!(rt; marks.published, 1);
+    Ok(())
+}
