@@ -5,3 +5,4 @@ pub mod StatesOf
 pub mod StepsOfCrashes
 pub mod TestsOfMisses
 pub mod Ways
+pub mod Withins

@@ -1,13 +1,8 @@
 -- When a call of a device may fail.
-use Rattle.std.specs.Prelude.{ℕ, ◌≤◌, Result, Ok, Err, IsErrOf}
-use Rattle.vb_cause.specs.Faults.{HasRisen}
+use Rattle.std.specs.Prelude.{Result, Ok, Err}
 use Rattle.vb_disk.specs.declared.disk_error.DiskError.{DiskError}
 use Rattle.vb_disk.specs.declared.disk_error.DiskError.TheVariants.{Failed, Memory}
-
--- the count of faults never falls, and this error comes only where it rose in this call
-pub record HasCause {T E : Type 0} (error : E) (before after : ℕ) (result : Result T E) : Type 0 where
-  pub kept : before ≤ after
-  pub failed : IsErrOf result error → HasRisen before after
+pub use Rattle.vb_cause.specs.Causes.{HasCause, UsesFailures, left_of}
 
 -- the fact holds, unless memory ran out
 abbrev pub UnlessMemory : {T : Type 0} → Result T DiskError → Type 0 → Type 0

@@ -1,6 +1,7 @@
 -- What a crash may leave of a disk, what damage may, and which of them are refused.
 use Rattle.std.specs.Prelude.{◌≡◌, ◌⊎◌, ℕ, ◌<◌, ◌≤◌, Bool, ◌&&◌, nat_lt, ◌==◌, if◌then◌else◌, List, [], ◌∷◌, length, Option, Some, None, Result, Ok, Err}
 use Rattle.std.specs.List.{Contains}
+use Rattle.vb_block.specs.Pages.{IsPage}
 use Rattle.vb_disk.specs.declared.cell.Cell.{Cell}
 use Rattle.vb_disk.specs.declared.crash.Side.{Side}
 use Rattle.vb_disk.specs.declared.crash.Pick.{Pick}
@@ -17,11 +18,12 @@ use Rattle.vb_disk.specs.States.{DiskState}
 
 -- ---- what any crash may leave
 
--- the place is newly hurt: it had two candidates or more, and reads as a miss
+-- the place is newly hurt: it had two candidates or more, and reads as a page that is a miss
 pub record IsTorn (old new : Cell) : Type 0 where
   pub several : 0 < length old.later
   pub bytes : List ℕ
   pub reads : new.hurt ≡ Some bytes
+  pub page : IsPage bytes
   pub miss : IsMiss old bytes
 
 -- a place after a crash: one candidate was picked, and it is hurt as before or newly torn
@@ -34,7 +36,8 @@ pub record CellMayCrashTo (old new : Cell) : Type 0 where
 pub record MayCrashTo (old new : DiskState) : Type 0 where
   pub size : new.size ≡ old.size
   pub writes : new.writes ≡ old.writes
-  pub syncs : new.syncs ≡ old.syncs
+  pub resizes : new.resizes ≡ old.resizes
+  pub synced_at : new.synced_at ≡ old.synced_at
   pub each : (place : ℕ) → CellMayCrashTo (old.cells place) (new.cells place)
 
 -- ---- a crash that is told what to leave

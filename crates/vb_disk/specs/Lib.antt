@@ -9,3 +9,4 @@ pub mod Moments
 pub mod Sparse
 pub mod States
 pub mod Valid
+pub mod Within

@@ -1,16 +1,17 @@
 -- What a disk in memory tells of itself, and which of its calls fail.
-use Rattle.std.specs.Prelude.{◌≡◌, ◌↔◌, ℕ, Bool, true, if◌then◌else◌, List, Option, Some, None, is_some, IsSome, Result, IsErrOf}
+use Rattle.std.specs.Prelude.{◌≡◌, ◌↔◌, ℕ, Bool, true, if◌then◌else◌, List, length, Option, Some, None, is_some, IsSome, Result, IsErrOf}
 use Rattle.vb_disk.specs.declared.disk_error.DiskError.{DiskError}
 use Rattle.vb_disk.specs.declared.disk_error.DiskError.TheVariants.{Failed}
-use Rattle.vb_failures.specs.declared.failures.Failure.{Failure}
+use Rattle.vb_cause.specs.declared.failures.Failure.{Failure}
 use Rattle.vb_disk.specs.declared.memory_disk.MemoryDisk.{MemoryDisk}
-use Rattle.vb_failures.specs.Failing.{due_of, passed}
+use Rattle.vb_cause.specs.Failing.{due_of, passed}
 use Rattle.vb_disk.specs.Sparse.{state_from}
-use Rattle.vb_disk.specs.States.{DiskState, counted}
+use Rattle.vb_cause.specs.Faults.{counted}
+use Rattle.vb_disk.specs.States.{DiskState}
 
 -- the told state
 abbrev pub state_of : MemoryDisk → DiskState
-state_of m = state_from m.table.size m.table.cells m.writes m.syncs
+state_of m = state_from m.table.size m.table.cells m.writes m.resizes m.synced_at
 
 -- the calls that are to fail. A failure says whether a write is made all the same.
 abbrev pub failures_of : MemoryDisk → List (Failure Bool)
@@ -24,6 +25,14 @@ is_made (Some after) = after
 -- how often a call failed
 abbrev pub faults_of : MemoryDisk → ℕ
 faults_of m = m.faults
+
+-- how many of its calls were made
+abbrev pub calls_of : MemoryDisk → ℕ
+calls_of m = m.calls
+
+-- how many failures may still come
+abbrev pub failures_left_of : MemoryDisk → Option ℕ
+failures_left_of m = Some (length (failures_of m))
 
 -- the same state, failures and faults
 pub record IsUntouched (old new : MemoryDisk) : Type 0 where

@@ -1,11 +1,11 @@
 -- What a log in memory holds, and which of its calls fail.
-use Rattle.std.specs.Prelude.{◌≡◌, ◌↔◌, ℕ, if◌then◌else◌, List, take, Option, Some, None, is_some, IsSome, Result, Ok, Err, IsErrOf}
-use Rattle.vb_failures.specs.declared.failures.Failure.{Failure}
+use Rattle.std.specs.Prelude.{◌≡◌, ◌↔◌, ℕ, if◌then◌else◌, List, length, take, Option, Some, None, is_some, IsSome, Result, Ok, Err, IsErrOf}
+use Rattle.vb_cause.specs.declared.failures.Failure.{Failure}
 use Rattle.vb_disk.specs.declared.log_file.LogError.{LogError}
 use Rattle.vb_disk.specs.declared.log_file.LogError.TheVariants.{Failed, Memory}
 use Rattle.vb_disk.specs.declared.memory_log.MemoryLog.{MemoryLog}
-use Rattle.vb_failures.specs.Failing.{due_of, passed}
-use Rattle.vb_disk.specs.States.{counted}
+use Rattle.vb_cause.specs.Failing.{due_of, passed}
+use Rattle.vb_cause.specs.Faults.{counted}
 
 -- the bytes
 abbrev pub bytes_of : MemoryLog → List ℕ
@@ -18,6 +18,14 @@ log_failures_of m = m.fails
 -- how often a call failed
 abbrev pub log_faults_of : MemoryLog → ℕ
 log_faults_of m = m.faults
+
+-- how many of its calls were made
+abbrev pub log_calls_of : MemoryLog → ℕ
+log_calls_of m = m.calls
+
+-- how many failures may still come
+abbrev pub log_failures_left_of : MemoryLog → Option ℕ
+log_failures_left_of m = Some (length (log_failures_of m))
 
 -- the same bytes, failures and faults
 pub record IsLogUntouched (old new : MemoryLog) : Type 0 where

@@ -1,8 +1,7 @@
 -- The moments between two states of a disk, at each of which a crash may come.
-use Rattle.std.specs.Prelude.{◌≡◌, ◌⊎◌, ℕ, ◌<◌, ◌≤◌, List, ◌∷◌, ◌++◌, None}
-use Rattle.vb_cause.specs.Faults.{greatest_count}
+use Rattle.std.specs.Prelude.{◌≡◌, ◌⊎◌, ℕ, ◌≤◌, List, ◌∷◌, ◌++◌, None}
 use Rattle.vb_disk.specs.declared.cell.Cell.{Cell}
-use Rattle.vb_disk.specs.States.{DiskState, DiskCall, after_calls}
+use Rattle.vb_disk.specs.States.{DiskState, DiskCall, IsDiskState, after_calls}
 
 -- some calls lead from the one state to the other
 abbrev pub Reaches : DiskState → DiskState → Type 0
@@ -13,16 +12,11 @@ pub record IsMoment (old new d : DiskState) : Type 0 where
   pub before : Reaches old d
   pub after : Reaches d new
 
--- the counts of calls stand below their end
-pub record CountsStand (d : DiskState) : Type 0 where
-  pub writes : d.writes < greatest_count
-  pub syncs : d.syncs < greatest_count
-
--- the new state was reached from the old one, and each state that was passed through has P, as long as the counts
--- of calls stand below their end
+-- the new state was reached from the old one, and each state that was passed through has P, where the old one is a
+-- state that a disk can have, as each told one is
 pub record EachMoment (P : DiskState → Type 0) (old new : DiskState) : Type 0 where
   pub reached : Reaches old new
-  pub each : (d : DiskState) → CountsStand new → IsMoment old new d → P d
+  pub each : (d : DiskState) → IsDiskState old → IsMoment old new d → P d
 
 -- the place has more candidates at its end, and is whole
 pub record HasMore (old new : Cell) : Type 0 where
@@ -35,6 +29,7 @@ pub record HasMore (old new : Cell) : Type 0 where
 -- writes alone were made: each place stands, or has more candidates at its end and is whole
 pub record OnlyWrites (old new : DiskState) : Type 0 where
   pub size : new.size ≡ old.size
-  pub syncs : new.syncs ≡ old.syncs
+  pub resizes : new.resizes ≡ old.resizes
+  pub synced_at : new.synced_at ≡ old.synced_at
   pub writes : old.writes ≤ new.writes
   pub each : (place : ℕ) → (new.cells place ≡ old.cells place) ⊎ HasMore (old.cells place) (new.cells place)

@@ -1,5 +1,7 @@
 // The steps of a crash, once nothing is refused any more. They take no memory.
 ghost use Rattle.std.specs.Prelude.{◌≡◌, ℕ, None, map, IfOk};
+ghost use Rattle.std.specs.List.{All};
+ghost use Rattle.vb_block.specs.Pages.{IsPage};
 ghost use Rattle.vb_disk.specs.Crashes.{page_of, pick_at, pick_refusal, tear_at, tear_refusal, with_pick, with_tear};
 ghost use Rattle.vb_disk.specs.Sparse.{cell_in, cells_of};
 
@@ -10,7 +12,8 @@ use vb_block::Page;
 
 /// Copies of the pages of the tears.
 pub(crate) fn copies(alloc: Global, torn: &[Tear]) -> Result<Vec<Page>, AllocError>
-    ensures { IfOk result (λ pages. pages.items ≡ map page_of torn.now) }
+    ensures copied { IfOk result (λ pages. pages.items ≡ map page_of torn.now) }
+    ensures pages { IfOk result (λ pages. All IsPage pages.items) }
 {
     let mut pages = Vec::new(alloc);
     for tear in torn {

@@ -1,13 +1,17 @@
 // The calls of a disk in memory. They say of its state what a disk promises of a told one, and exactly when they fail.
 ghost use Rattle.std.specs.Prelude.{◌≡◌, ◌<◌, Some, if◌then◌else◌, IfOk, OnOk, OnErr, IsErrOf};
-ghost use Rattle.vb_disk.specs.Causes.{HasCause, UnlessMemory};
-ghost use Rattle.vb_failures.specs.Failing.{due_of};
-ghost use Rattle.vb_disk.specs.Memory.{is_made, state_of, failures_of, faults_of, FailsAsListed, IsUntouched};
+ghost use Rattle.vb_disk.specs.Causes.{UnlessMemory};
+ghost use Rattle.vb_disk.specs.Within.{CrashesWithin};
+ghost use Rattle.vb_cause.specs.Causes.{HasCause, UsesFailures, left_of};
+ghost use Rattle.vb_cause.specs.Failing.{due_of};
+ghost use Rattle.vb_cause.specs.Faults.{counted};
+ghost use Rattle.vb_disk.specs.Memory.{is_made, state_of, calls_of, failures_of, failures_left_of, faults_of, FailsAsListed, IsUntouched};
 ghost use Rattle.vb_disk.specs.States.{read_at, written, synced, resized};
-ghost use Rattle.vb_disk.specs.Valid.{IsDiskState-state_of};
+ghost use Rattle.vb_disk.specs.Valid.{IsDiskState-state_of, seen_size-fits};
 
 use crate::{Disk, DiskError, MemoryDisk, Side};
 use vb_block::Page;
+use vb_cause::raised;
 
 impl Disk for MemoryDisk {
     ghost told = { λ m. Some (state_of m) };
@@ -16,15 +20,25 @@ impl Disk for MemoryDisk {
 
     ghost faults = { faults_of };
 
+    ghost failures_left = { failures_left_of };
+
+    ghost calls = { calls_of };
+
     ghost valid = { λ m d is. IsDiskState-state_of m d is };
+
+    ghost seen_fits = { λ m d is. seen_size-fits m d is };
 
     fn size(&mut self) -> Result<u32, DiskError>
         ensures blocks { IfOk result (λ blocks. blocks ≡ (state_of self.old).size) }
         ensures state { state_of self.new ≡ state_of self.old }
+        ensures within { CrashesWithin (Some (state_of self.old)) (Some (state_of self.new)) }
+        ensures called { calls_of self.new ≡ counted (calls_of self.old) }
         ensures cause { HasCause DiskError.Failed (faults_of self.old) (faults_of self.new) result }
+        ensures left { UsesFailures DiskError.Failed (failures_left_of self.old) (failures_left_of self.new) result }
         ensures listed { FailsAsListed self.old self.new result }
         ensures never_memory { IsErrOf result DiskError.Memory → ⊥ }
     {
+        self.calls = raised(self.calls);
         self.pass()?;
         Ok(self.table.size)
     }
@@ -33,10 +47,14 @@ impl Disk for MemoryDisk {
         requires { place < (state_of self.old).size }
         ensures bytes { OnOk result (into.new ≡ read_at (state_of self.old) place) }
         ensures state { state_of self.new ≡ state_of self.old }
+        ensures within { CrashesWithin (Some (state_of self.old)) (Some (state_of self.new)) }
+        ensures called { calls_of self.new ≡ counted (calls_of self.old) }
         ensures cause { HasCause DiskError.Failed (faults_of self.old) (faults_of self.new) result }
+        ensures left { UsesFailures DiskError.Failed (failures_left_of self.old) (failures_left_of self.new) result }
         ensures listed { FailsAsListed self.old self.new result }
         ensures never_memory { IsErrOf result DiskError.Memory → ⊥ }
     {
+        self.calls = raised(self.calls);
         self.pass()?;
         match self.table.cell(place) {
             Some(cell) => into.copy_from(cell.seen()),
@@ -51,11 +69,15 @@ impl Disk for MemoryDisk {
         // It is made where it doesn't fail, or is listed to fail after it was made.
         ensures made { UnlessMemory result (state_of self.new
             ≡ (if is_made (due_of (failures_of self.old)) then written (state_of self.old) place page.now else state_of self.old)) }
+        ensures within { CrashesWithin (Some (state_of self.old)) (Some (state_of self.new)) }
+        ensures called { calls_of self.new ≡ counted (calls_of self.old) }
         ensures cause { HasCause DiskError.Failed (faults_of self.old) (faults_of self.new) result }
+        ensures left { UsesFailures DiskError.Failed (failures_left_of self.old) (failures_left_of self.new) result }
         ensures listed { UnlessMemory result (FailsAsListed self.old self.new result) }
         ensures untouched { IsErrOf result DiskError.Memory → IsUntouched self.old self.new }
         ensures size { (state_of self.new).size ≡ (state_of self.old).size }
     {
+        self.calls = raised(self.calls);
         match self.fails.due() {
             Some(false) => {}
             _ => self.put(place, page)?,
@@ -66,26 +88,37 @@ impl Disk for MemoryDisk {
     fn sync(&mut self) -> Result<(), DiskError>
         ensures done { OnOk result (state_of self.new ≡ synced (state_of self.old)) }
         ensures kept { OnErr result (state_of self.new ≡ state_of self.old) }
+        ensures within { CrashesWithin (Some (state_of self.old)) (Some (state_of self.new)) }
+        ensures called { calls_of self.new ≡ counted (calls_of self.old) }
         ensures cause { HasCause DiskError.Failed (faults_of self.old) (faults_of self.new) result }
+        ensures left { UsesFailures DiskError.Failed (failures_left_of self.old) (failures_left_of self.new) result }
         ensures listed { FailsAsListed self.old self.new result }
         ensures never_memory { IsErrOf result DiskError.Memory → ⊥ }
     {
+        self.calls = raised(self.calls);
         self.pass()?;
         self.table.settle(Side::Last);
-        self.syncs = self.syncs.saturating_add(1);
+        self.synced_at = self.writes;
         Ok(())
     }
 
     fn resize(&mut self, blocks: u32) -> Result<(), DiskError>
         ensures done { OnOk result (state_of self.new ≡ resized (state_of self.old) blocks) }
         ensures kept { OnErr result (state_of self.new ≡ state_of self.old) }
+        ensures within { CrashesWithin (Some (state_of self.old)) (Some (state_of self.new)) }
+        ensures called { calls_of self.new ≡ counted (calls_of self.old) }
         ensures cause { HasCause DiskError.Failed (faults_of self.old) (faults_of self.new) result }
-        ensures listed { FailsAsListed self.old self.new result }
-        ensures never_memory { IsErrOf result DiskError.Memory → ⊥ }
+        ensures left { UsesFailures DiskError.Failed (failures_left_of self.old) (failures_left_of self.new) result }
+        ensures listed { UnlessMemory result (FailsAsListed self.old self.new result) }
+        ensures untouched { IsErrOf result DiskError.Memory → IsUntouched self.old self.new }
     {
+        self.calls = raised(self.calls);
+        if self.resizes == u64::MAX {
+            return Err(DiskError::Memory);
+        }
         self.pass()?;
         self.table.resize(blocks);
-        self.syncs = self.syncs.saturating_add(1);
+        self.resizes += 1;
         Ok(())
     }
 }

@@ -7,7 +7,7 @@ use vb_block::Page;
 impl MemoryDisk {
     ghost use Rattle.std.specs.Prelude.{◌≡◌, [], OnOk, OnErr};
     ghost use Rattle.vb_disk.specs.Crashes.{crashed, crash_refusal, damaged, damage_refusal, AnswersCrash, AnswersDamage, AnswersMiss, MayCrashTo};
-    ghost use Rattle.vb_disk.specs.Memory.{state_of, failures_of, faults_of, IsUntouched};
+    ghost use Rattle.vb_disk.specs.Memory.{state_of, calls_of, failures_of, faults_of, IsUntouched};
 
     /// Crashes: each place keeps the candidate of its first pick, or else the oldest or newest one, and reads as
     /// the page of its first tear, or else as before. No call is to fail any more.
@@ -16,6 +16,7 @@ impl MemoryDisk {
         ensures ok { OnOk result (state_of self.new ≡ crashed rest picks.now torn.now (state_of self.old)) }
         ensures failures { OnOk result (failures_of self.new ≡ []) }
         ensures faults { OnOk result (faults_of self.new ≡ faults_of self.old) }
+        ensures calls { calls_of self.new ≡ calls_of self.old }
         ensures err { OnErr result (IsUntouched self.old self.new) }
 
         // It is one of the crashes that a disk may have.
@@ -37,6 +38,7 @@ impl MemoryDisk {
         ensures ok { OnOk result (state_of self.new ≡ damaged (state_of self.old) place page) }
         ensures failures { OnOk result (failures_of self.new ≡ failures_of self.old) }
         ensures faults { OnOk result (faults_of self.new ≡ faults_of self.old) }
+        ensures calls { calls_of self.new ≡ calls_of self.old }
         ensures err { OnErr result (IsUntouched self.old self.new) }
     {
         if place >= self.table.size {

@@ -49,6 +49,7 @@ impl Table {
         ensures err { OnErr result (KeepsAll self.old.cells self.new.cells) }
         ensures size { self.new.size ≡ self.old.size }
     {
+        let _ = page.bytes();
         cells::write(&mut self.cells, self.alloc, &mut self.listed, place, page)
     }
 
@@ -78,6 +79,7 @@ impl Table {
         ensures err { OnErr result (KeepsAll self.old.cells self.new.cells) }
         ensures size { self.new.size ≡ self.old.size }
     {
+        let _ = page.bytes();
         cells::hurt(&mut self.cells, self.alloc, place, page)
     }
 
@@ -88,6 +90,7 @@ impl Table {
         ensures changed { ChangesOne self.old.cells self.new.cells place (hurt_cell (cell_in self.old.cells place) page) }
         ensures size { self.new.size ≡ self.old.size }
     {
+        let _ = page.bytes();
         cells::tear(&mut self.cells, place, page);
     }
 

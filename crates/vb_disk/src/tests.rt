@@ -24,7 +24,7 @@ fn first_byte<D: Disk>(alloc: Global, disk: &mut D) -> Result<u8, DiskError> {
 #[test]
 fn a_miss_is_no_candidate(rt: HostRuntime) -> Result<(), Fail> {
     let alloc = rt.alloc();
-    let mut disk = MemoryDisk::new(alloc, 2);
+    let mut disk = MemoryDisk::new(alloc, 2)?;
     let miss = disk.miss(0)?;
     assert_eq!(rt; miss.bytes(), page_of(alloc, 0xEE)?.bytes());
     assert_eq!(rt;
@@ -52,7 +52,7 @@ fn a_miss_is_no_candidate(rt: HostRuntime) -> Result<(), Fail> {
 #[test]
 fn a_crash_picks_a_candidate(rt: HostRuntime) -> Result<(), Fail> {
     let alloc = rt.alloc();
-    let mut disk = MemoryDisk::new(alloc, 1);
+    let mut disk = MemoryDisk::new(alloc, 1)?;
     disk.write(0, &page_of(alloc, 1)?)?;
     disk.sync()?;
     disk.write(0, &page_of(alloc, 2)?)?;
@@ -76,7 +76,7 @@ fn a_crash_picks_a_candidate(rt: HostRuntime) -> Result<(), Fail> {
 #[test]
 fn a_torn_place_reads_as_a_miss(rt: HostRuntime) -> Result<(), Fail> {
     let alloc = rt.alloc();
-    let mut disk = MemoryDisk::new(alloc, 1);
+    let mut disk = MemoryDisk::new(alloc, 1)?;
     let mut torn = Vec::new(alloc);
     torn.push(Tear {
         place: 0,
@@ -113,7 +113,7 @@ fn a_torn_place_reads_as_a_miss(rt: HostRuntime) -> Result<(), Fail> {
 #[test]
 fn a_listed_call_fails(rt: HostRuntime) -> Result<(), Fail> {
     let alloc = rt.alloc();
-    let mut disk = MemoryDisk::new(alloc, 1);
+    let mut disk = MemoryDisk::new(alloc, 1)?;
     disk.fail_call(1, true)?;
     disk.fail_call(2, false)?;
     disk.fail_call(2, true)?;

@@ -9,18 +9,21 @@ use vb_disk::{Disk, DiskError, LogError, LogFile};
 fn a_disk_is_kept_in_a_file(rt: HostRuntime) -> Result<(), Fail> {
     let alloc = rt.alloc();
     let name = "vb_edge_disk_of_a_test";
-    let mut disk = FileDisk::at(alloc, rt, name)?;
-    disk.resize(2)?;
     let mut page = Page::zero(alloc)?;
     page.fill(7);
-    disk.write(1, &page)?;
-    disk.sync()?;
     let mut again = FileDisk::at(alloc, rt, name)?;
+    {
+        let mut disk = FileDisk::at(alloc, rt, name)?;
+        disk.resize(2)?;
+        disk.write(1, &page)?;
+        disk.sync()?;
+        assert_eq!(rt; again.size(), Err(DiskError::Failed));
+    }
     assert_eq!(rt; again.size()?, 2);
     let mut read = Page::zero(alloc)?;
     again.read(1, &mut read)?;
     assert_eq!(rt; read.bytes(), page.bytes());
-    disk.resize(1)?;
+    again.resize(1)?;
     assert_eq!(rt; again.read(1, &mut read), Err(DiskError::Failed));
     fs::remove_file(&rt, name)?;
     let mut nowhere = FileDisk::at(alloc, rt, "no_such_folder/disk")?;

@@ -1,12 +1,18 @@
-use Rattle.vb_disk.proofs.StatesOf.{OnErr-from, state_from-kept, state_from-written}
+use Rattle.std.proofs.Common.{◌+◌, refl}
+use Rattle.vb_disk.proofs.StatesOf.{IsCounted-kept, state_from-kept, state_from-written}
 use Rattle.vb_disk.proofs.memory_disk.MemoryDisk.put.Goals as goal
 
-pub returns-in_err-write-clause-err : goal.returns-in_err-write-clause-err
-returns-in_err-write-clause-err c =
+pub invariant_of-self-in-Err : goal.invariant_of-self-in-Err
+invariant_of-self-in-Err c =
     let m = c.args.self.now in
-    OnErr-from c.from_residual-in_err-write.result (state_from-kept m.table.size c.write.new.self.size m.writes m.syncs m.table.cells c.write.new.self.cells c.in_err-write.ensures.size c.in_err-write.ensures.err)
+    record { counted = IsCounted-kept m.table.size c.write.new.self.size m.writes m.resizes m.synced_at m.table.cells c.write.new.self.cells m.counted c.in-Err.ensures.size c.in-Err.ensures.err }
 
-pub returns-clause-ok : goal.returns-clause-ok
-returns-clause-ok c =
+pub returns-in-Err-clause-err : goal.returns-in-Err-clause-err
+returns-in-Err-clause-err c =
     let m = c.args.self.now in
-    state_from-written m.table.size c.write.new.self.size m.writes c.saturating_add-self.result m.syncs c.args.place c.args.page.now c.in_ok-copied.copied m.table.cells c.write.new.self.cells c.in_ok-write.ensures.size c.saturating_add-self.ensures c.in_ok-copied.ensures c.in_ok-write.ensures.ok
+    state_from-kept m.table.size c.write.new.self.size m.writes m.resizes m.synced_at m.table.cells c.write.new.self.cells c.in-Err.ensures.size c.in-Err.ensures.err
+
+pub returns-in-Ok-clause-ok : goal.returns-in-Ok-clause-ok
+returns-in-Ok-clause-ok c =
+    let m = c.args.self.now in
+    state_from-written m.table.size c.write.new.self.size m.writes (m.writes + 1) m.resizes m.synced_at c.args.place c.args.page.now c.in_ok-copied.copied m.table.cells c.write.new.self.cells c.in-Ok.ensures.size refl c.in_ok-copied.ensures.same c.in-Ok.ensures.ok
