@@ -1,0 +1,8 @@
+pub mod Numbers
+pub mod PathTexts
+pub mod MessagesSame
+pub mod FrameFronts
+pub mod WholeFrames
+pub mod FramesRead
+pub mod BodiesRead
+pub mod FrameLaws
