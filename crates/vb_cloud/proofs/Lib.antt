@@ -1,1 +1,6 @@
+pub mod Digests
+pub mod Drafted
+pub mod Found
+pub mod Keeps
 pub mod Copies
+pub mod Rises
