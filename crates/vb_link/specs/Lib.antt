@@ -1,0 +1,5 @@
+pub mod Views
+pub mod Links
+pub mod Memory
+pub mod Props
+pub mod Valid
