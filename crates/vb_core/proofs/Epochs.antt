@@ -1,4 +1,4 @@
--- A freeze and a publication keep a folder sound.
+-- A freeze and a publication keep the history part of a sound folder.
 use Rattle.std.proofs.Common.{◌≡◌, ◌≢◌, ℕ, ◌+◌, ◌<◌, ◌≤◌, ◌⊎◌, inl, inr, Bool, true, false, not, ◌||◌, ◌==◌, is_some, if◌then◌else◌, IfSome, List, [], ◌∷◌, ◌++◌, Option, Some, None, refl, ap, sym, ◌∙◌, subst, subst₂, append_assoc, append-nil, arith}
 use Rattle.std.specs.List.{AllByRecursion, list_any}
 use Rattle.std.proofs.lemmas.Bool.Decides.{nat_tests}
@@ -8,16 +8,17 @@ use Rattle.vb_hist.specs.declared.entry.Entry.TheVariants.{Call, Freeze, FreezeB
 use Rattle.vb_hist.specs.declared.entry.Stage.{Stage}
 use Rattle.vb_hist.specs.declared.entry.Stage.TheVariants.{Rested, Written, Committed}
 use Rattle.vb_hist.specs.Histories.{IsFrozenAt, is_freeze_of, folder_after, up_to_epoch}
-use Rattle.vb_hist.specs.Legal.{Opening, folder_at, standing_without}
+use Rattle.vb_hist.specs.Legal.{Opening, folder_at, standing_without, marks_after, marks_of}
 use Rattle.vb_hist.proofs.Survivors.{surviving-whole}
 use Rattle.vb_hist.proofs.Fronts.{up_to_epoch-freeze, IsFrozenAt-freeze}
 use Rattle.vb_hist.proofs.Pushed.{all-push}
+use Rattle.vb_core.specs.declared.event.FolderEvent.TheVariants as events
 use Rattle.vb_core.specs.declared.event.FolderAnswer.TheVariants as answers
 use Rattle.vb_core.specs.declared.event.UploadStep.TheVariants as uploads
-use Rattle.vb_core.specs.Core.{Core, greatest_epoch, is_busy, is_rested, freeze_answer, after_freeze, tree_in, after_upload_step, upload_answer}
-use Rattle.vb_core.specs.Sound.{IsSound, IsNoFreezeAbove, published_front}
-use Rattle.vb_core.proofs.Noted.{longer, front_of, front_stays, noted, same, shown_stays, shown_frozen}
-use Rattle.vb_core.proofs.Transitions.{let_go, sound-busy}
+use Rattle.vb_core.specs.Core.{Core, is_busy, is_spent, is_rested, freeze_answer, frozen_while, core_after, upload_answer}
+use Rattle.vb_core.specs.Sound.{HasSoundHistory, IsNoFreezeAbove, IsPublishedFreeze, TellsMarks, published_front}
+use Rattle.vb_core.proofs.Noted.{longer, front_of, front_stays, noted, same, still_same, shown_frozen}
+use Rattle.vb_core.proofs.Transitions.{kept_while, frozen_standing, sound-busy}
 
 -- no freeze is above the last epoch: that of a later epoch isn't there
 none-frozen : (last epoch : ℕ) (history : List Entry) → last < epoch → AllByRecursion (IsNoFreezeAbove last) history → list_any (is_freeze_of epoch) history ≡ false
@@ -64,10 +65,11 @@ idle None Rested h = (refl, refl)
 idle None Written h = cc
 idle None Committed h = cc
 
-sound-frozen : (o : Opening) (core : Core) (by : ℕ) → is_busy core ≡ false → IsSound o core → IsSound o (after_freeze core by (answers.Frozen (core.epoch + 1)))
+sound-frozen : (o : Opening) (core : Core) (by : ℕ) → is_busy core ≡ false → HasSoundHistory o core → HasSoundHistory o (core_after core (events.Freeze by) (answers.Frozen (core.epoch + 1)))
 sound-frozen o core by free s =
+    let t = s.marks in
     let at_rest = idle core.standing core.stage free in
-    let n = noted o core (Freeze by (core.epoch + 1)) s refl (at_rest.0, at_rest.1, refl) in
+    let n = noted o core (Freeze by (core.epoch + 1)) s refl (sym t.standing ∙ at_rest.0, sym t.stage ∙ at_rest.1, ap (λ e. e + 1) t.last) in
     let from : o.start < core.epoch + 1 = omega (arith, s.from_start) in
     let none = none-frozen core.epoch (core.epoch + 1) core.history (omega arith) s.none_above in
     let all = surviving-whole o.start (longer core (Freeze by (core.epoch + 1))) n.whole in
@@ -77,8 +79,8 @@ sound-frozen o core by free s =
       whole = n.whole;
       active = sym n.folder;
       frozen = ap (λ t. Some t) tree;
-      published_tree = s.published_tree ∙ sym (shown_stays o core (Freeze by (core.epoch + 1)) s n);
-      marks = n.marks;
+      marks = subst (λ m. TellsMarks (core_after core (events.Freeze by) (answers.Frozen (core.epoch + 1))) m) (sym n.marks)
+          (record { last = refl; standing = refl; stage = refl; published = t.published; limits = t.limits });
       limits = s.limits;
       view_is_last = (refl, omega (arith, s.published_is_past));
       last_is_frozen = IsFrozenAt-freeze o.start (core.epoch + 1) by core.history;
@@ -90,33 +92,51 @@ sound-frozen o core by free s =
           (front-append (published_front o core.history core.published) core.history (Freeze by (core.epoch + 1) ∷ []) (front_of o core.history core.published));
     }
 
-sound-freeze_at : (o : Opening) (core : Core) (by : ℕ) (busy spent : Bool) → is_busy core ≡ busy → IsSound o core
-    → IsSound o (after_freeze core by (if busy then answers.Busy core.epoch else (if spent then answers.Spent core.epoch 0 else answers.Frozen (core.epoch + 1))))
+sound-freeze_at : (o : Opening) (core : Core) (by : ℕ) (busy spent : Bool) → is_busy core ≡ busy → HasSoundHistory o core
+    → HasSoundHistory o (core_after core (events.Freeze by) (if busy then answers.Busy core.epoch else (if spent then answers.Spent core.epoch core.sequence else answers.Frozen (core.epoch + 1))))
 sound-freeze_at o core by true spent is s = sound-busy o core by is s
-sound-freeze_at o core by false true is s = s
+sound-freeze_at o core by false true is s = still_same o core s
 sound-freeze_at o core by false false is s = sound-frozen o core by is s
 
-pub sound-freeze : (o : Opening) (core : Core) (by : ℕ) → IsSound o core → IsSound o (after_freeze core by (freeze_answer core))
-sound-freeze o core by s = sound-freeze_at o core by (is_busy core) (core.epoch == greatest_epoch) refl s
+pub sound-freeze : (o : Opening) (core : Core) (by : ℕ) → HasSoundHistory o core → HasSoundHistory o (core_after core (events.Freeze by) (freeze_answer core))
+sound-freeze o core by s = sound-freeze_at o core by (is_busy core) (is_spent core) refl s
+
+-- a later epoch than the published one is later than the opening's
+pub past_opening : (o : Opening) (history : List Entry) (published epoch : ℕ) → IsPublishedFreeze o history published → published < epoch → o.published < epoch
+past_opening o history published epoch (inl same) later = omega arith
+past_opening o history published epoch (inr h) later = omega (arith, h.0)
+
+-- a folder after a publication at an epoch, where this view stands afterwards
+abbrev published_with : Core → ℕ → Option ℕ → Core
+published_with core epoch standing = record core {
+  history = longer core (Publish epoch);
+  published = epoch;
+  standing = standing;
+  frozen = frozen_while standing core.stage core.frozen;
+}
+
+-- nothing stands any more once the view that stood is published
+none_stands : (standing : Option ℕ) (epoch : ℕ) → standing ≡ Some epoch → standing_without standing epoch ≡ None
+none_stands standing epoch is = ap (λ v. standing_without v epoch) is ∙ ap (λ b. if b then None else Some epoch) (same epoch)
 
 -- a view that stands is published where its stage isn't Written
-sound-published : (o : Opening) (core : Core) (epoch : ℕ) → core.standing ≡ Some epoch → core.stage ≢ Written → IsSound o core → IsSound o (after_upload_step core (uploads.Published epoch))
+sound-published : (o : Opening) (core : Core) (epoch : ℕ) → core.standing ≡ Some epoch → core.stage ≢ Written → HasSoundHistory o core → HasSoundHistory o (core_after core events.UploadStep (answers.UploadStepped (uploads.Published epoch)))
 sound-published o core epoch is on s =
+    let t = s.marks in
+    let gone = none_stands core.standing epoch is in
     let last : (epoch ≡ core.epoch) × (core.published < epoch) = subst (λ v. IfSome v (λ e. (e ≡ core.epoch) × (core.published < e))) is s.view_is_last in
-    let n = noted o core (Publish epoch) s refl (last.1, inl (is, on)) in
-    let kept : core.frozen ≡ Some (folder_at o core.history core.epoch) =
-    s.frozen ∙ ap (λ v. if is_some v || not (is_rested core.stage) then Some (folder_at o core.history core.epoch) else None) is in
-    let past : o.published < epoch = above s.published_is_frozen last.1 in
+    let may : (marks_of o core.history).published < epoch = subst (λ p. p < epoch) t.published last.1 in
+    let n = noted o core (Publish epoch) s refl (may, inl (sym t.standing ∙ is, λ h. on (t.stage ∙ h))) in
+    let past : o.published < epoch = past_opening o core.history core.published epoch s.published_is_frozen last.1 in
     let other : (epoch == o.published) ≡ false = grind (arith, nat_tests) in
     let stays = n.stays core.epoch s.last_is_frozen in
-    let shown : folder_at o core.history core.epoch ≡ folder_at o (longer core (Publish epoch)) epoch =
-    sym stays ∙ ap (λ e. folder_at o (longer core (Publish epoch)) e) (sym last.0) in record {
+    let none : HasSoundHistory o (published_with core epoch None) = record {
       legal = n.legal;
       whole = n.whole;
       active = sym n.folder;
-      frozen = let_go core.stage core.frozen (folder_at o core.history core.epoch) kept ∙ ap (λ t. if not (is_rested core.stage) then Some t else None) (sym stays);
-      published_tree = ap tree_in kept ∙ (shown ∙ ap (λ b. if b then o.published_tree else folder_at o (longer core (Publish epoch)) epoch) (sym other));
-      marks = n.marks ∙ ap (λ v. record { last = core.epoch; standing = v; stage = core.stage; doubt = None; published = epoch; limits = core.limits }) (ap (λ v. standing_without v epoch) is ∙ ap (λ b. if b then None else Some epoch) (same epoch));
+      frozen = kept_while None core.stage core.frozen (folder_at o core.history core.epoch) (frozen_standing o core epoch is s) ∙ ap (λ t. if not (is_rested core.stage) then Some t else None) (sym stays);
+      marks = subst (λ m. TellsMarks (published_with core epoch None) m) (sym n.marks)
+          (record { last = t.last; standing = sym gone ∙ ap (λ v. standing_without v epoch) t.standing; stage = t.stage; published = refl; limits = t.limits });
       limits = s.limits;
       view_is_last = tt;
       last_is_frozen = n.stands core.epoch s.last_is_frozen;
@@ -125,17 +145,14 @@ sound-published o core epoch is on s =
       published_is_frozen = inr (past, subst (λ e. IsFrozenAt o.start e (longer core (Publish epoch))) (sym last.0) (n.stands core.epoch s.last_is_frozen));
       published_is_past = omega (arith, last.0);
       published_in_last = ([], append-nil (published_front o (longer core (Publish epoch)) epoch) ∙ (ap (λ b. if b then [] else up_to_epoch o.start epoch (longer core (Publish epoch))) other ∙ ap (λ e. up_to_epoch o.start e (longer core (Publish epoch))) last.0));
-    }
-  where
-    above : (core.published ≡ o.published) ⊎ ((o.published < core.published) × IsFrozenAt o.start core.published core.history) → core.published < epoch → o.published < epoch
-    above (inl same) later = omega arith
-    above (inr h) later = omega (arith, h.0)
+    } in subst (λ v. HasSoundHistory o (published_with core epoch v)) (sym gone) none
 
-sound-upload_at : (o : Opening) (core : Core) (standing : Option ℕ) (stage : Stage) → core.standing ≡ standing → core.stage ≡ stage → IsSound o core → IsSound o (after_upload_step core (upload_answer standing stage))
-sound-upload_at o core None stage is on s = s
-sound-upload_at o core (Some epoch) Written is on s = s
+sound-upload_at : (o : Opening) (core : Core) (standing : Option ℕ) (stage : Stage) → core.standing ≡ standing → core.stage ≡ stage → HasSoundHistory o core
+    → HasSoundHistory o (core_after core events.UploadStep (answers.UploadStepped (upload_answer standing stage)))
+sound-upload_at o core None stage is on s = still_same o core s
+sound-upload_at o core (Some epoch) Written is on s = still_same o core s
 sound-upload_at o core (Some epoch) Committed is on s = sound-published o core epoch is (λ h. cc (on, h)) s
 sound-upload_at o core (Some epoch) Rested is on s = sound-published o core epoch is (λ h. cc (on, h)) s
 
-pub sound-upload_step : (o : Opening) (core : Core) → IsSound o core → IsSound o (after_upload_step core (upload_answer core.standing core.stage))
+pub sound-upload_step : (o : Opening) (core : Core) → HasSoundHistory o core → HasSoundHistory o (core_after core events.UploadStep (answers.UploadStepped (upload_answer core.standing core.stage)))
 sound-upload_step o core s = sound-upload_at o core core.standing core.stage refl refl s

@@ -1,5 +1,5 @@
 pub mod Noted
 pub mod Transitions
 pub mod Epochs
+pub mod Events
 pub mod Moments
-pub mod Lists

@@ -1,4 +1,4 @@
--- Sound folders: what ties a folder to its history and to an opening.
+-- Sound folders: what ties a folder to its history, to its cloud, and to an opening.
 use Rattle.std.specs.Prelude.{◌≡◌, ℕ, ◌<◌, ◌≤◌, ◌⊎◌, ◌==◌, if◌then◌else◌, List, [], Option, Some, None, IfSome}
 use Rattle.std.specs.List.{AllByRecursion}
 use mathlib.Core.List.{IsPrefix}
@@ -7,8 +7,9 @@ use Rattle.vb_tree.specs.declared.tree.TreeEntry.{TreeEntry}
 use Rattle.vb_hist.specs.declared.entry.Entry.{Entry}
 use Rattle.vb_hist.specs.declared.entry.Entry.TheVariants.{Freeze}
 use Rattle.vb_hist.specs.Histories.{HasNoCut, IsFrozenAt, up_to_epoch}
-use Rattle.vb_hist.specs.Legal.{Opening, Marks, IsLegal, marks_of, folder_of, folder_at}
-use Rattle.vb_core.specs.Core.{Core, is_busy}
+use Rattle.vb_hist.specs.declared.marks.Marks.{Marks}
+use Rattle.vb_hist.specs.Legal.{Opening, IsLegal, marks_of, folder_of, folder_at}
+use Rattle.vb_core.specs.Core.{Core, FolderView, is_busy}
 
 -- the opening of a new folder: the empty tree at epoch 0, which the cloud shows too
 abbrev pub new_opening : Limits → Opening
@@ -27,32 +28,33 @@ abbrev pub IsNoFreezeAbove : ℕ → Entry → Type 0
 IsNoFreezeAbove last (Freeze by epoch) = epoch ≤ last
 IsNoFreezeAbove last other = Unit {0}
 
--- the marks as the folder tells them: nothing is in doubt
-abbrev pub told_marks : Core → Marks
-told_marks core = record {
-  last = core.epoch;
-  standing = core.standing;
-  stage = core.stage;
-  doubt = None;
-  published = core.published;
-  limits = core.limits;
-}
+-- what the folder tells are these marks. Of a doubt it tells nothing: whether the marks have one is not said
+pub record TellsMarks (core : Core) (marks : Marks) : Type 0 where
+  pub last : core.epoch ≡ marks.last
+  pub standing : core.standing ≡ marks.standing
+  pub stage : core.stage ≡ marks.stage
+  pub published : core.published ≡ marks.published
+  pub limits : core.limits ≡ marks.limits
 
--- the tree that the cloud shows: the opening's while its epoch is shown, and else the folder at the epoch that is shown
+-- the tree that belongs to a published epoch: the opening's while that is the opening's own, and else the folder at the epoch
 abbrev pub published_tree_at : Opening → List Entry → ℕ → List TreeEntry
 published_tree_at o history epoch = if epoch == o.published then o.published_tree else folder_at o history epoch
 
--- the front of the history that the cloud shows: nothing of it while the opening's epoch is shown, and else all up to
--- the freeze of the epoch that is shown
+-- the front of what survives that is published: nothing of it while the opening's epoch is, and else all up to the freeze
+-- of the epoch that is
 abbrev pub published_front : Opening → List Entry → ℕ → List Entry
-published_front o history epoch = if epoch == o.published then [] else up_to_epoch o.start epoch history
+published_front o line epoch = if epoch == o.published then [] else up_to_epoch o.start epoch line
+
+-- a published epoch is the opening's, or a later one whose freeze survives
+abbrev pub IsPublishedFreeze : Opening → List Entry → ℕ → Type 0
+IsPublishedFreeze o line epoch = (epoch ≡ o.published) ⊎ ((o.published < epoch) × IsFrozenAt o.start epoch line)
 
 -- the frozen tree: the folder at the last freeze while a view stands or a commit is on, and none else
 abbrev pub frozen_tree_at : Opening → Core → Option (List TreeEntry)
 frozen_tree_at o core = if is_busy core then Some (folder_at o core.history core.epoch) else None
 
--- a folder is sound for an opening
-pub record IsSound (o : Opening) (core : Core) : Type 0 where
+-- the part that knows no device: the history, the trees, and what the folder tells
+pub record HasSoundHistory (o : Opening) (core : Core) : Type 0 where
   -- its history is legal, entry by entry, and nothing was cut
   pub legal : IsLegal o core.history
   pub whole : HasNoCut core.history
@@ -60,10 +62,8 @@ pub record IsSound (o : Opening) (core : Core) : Type 0 where
   pub active : core.active ≡ folder_of o core.history
   -- the frozen tree is the folder at the last freeze
   pub frozen : core.frozen ≡ frozen_tree_at o core
-  -- the published tree is the folder at the published epoch's freeze
-  pub published_tree : core.published_tree ≡ published_tree_at o core.history core.published
   -- what it tells are the marks of its history
-  pub marks : marks_of o core.history ≡ told_marks core
+  pub marks : TellsMarks core (marks_of o core.history)
   pub limits : core.limits ≡ o.limits
   -- a view that stands is the last one, and not yet published
   pub view_is_last : IfSome core.standing (λ epoch. (epoch ≡ core.epoch) × (core.published < epoch))
@@ -72,7 +72,22 @@ pub record IsSound (o : Opening) (core : Core) : Type 0 where
   pub none_above : AllByRecursion (IsNoFreezeAbove core.epoch) core.history
   pub from_start : o.start ≤ core.epoch
   -- the published epoch is the opening's or is frozen
-  pub published_is_frozen : (core.published ≡ o.published) ⊎ ((o.published < core.published) × IsFrozenAt o.start core.published core.history)
+  pub published_is_frozen : IsPublishedFreeze o core.history core.published
   pub published_is_past : core.published ≤ core.epoch
-  -- what the cloud shows is a front of the history up to the last freeze
+  -- what is published is a front of the history up to the last freeze
   pub published_in_last : IsPrefix (published_front o core.history core.published) (up_to_epoch o.start core.epoch core.history)
+
+-- the disk's part: nothing, as long as a folder has no disk
+abbrev pub HasSoundDisk : Opening → FolderView → Type 0
+HasSoundDisk o folder = Unit {0}
+
+-- the cloud's part: it shows the folder's published epoch, with the tree that belongs to it
+pub record HasSoundCloud (o : Opening) (folder : FolderView) : Type 0 where
+  pub epoch : folder.cloud.epoch ≡ folder.core.published
+  pub tree : folder.cloud.tree ≡ published_tree_at o folder.core.history folder.cloud.epoch
+
+-- a folder is sound for an opening
+pub record IsSound (o : Opening) (folder : FolderView) : Type 0 where
+  pub history : HasSoundHistory o folder.core
+  pub disk : HasSoundDisk o folder
+  pub cloud : HasSoundCloud o folder

@@ -52,6 +52,14 @@ pub enum FreezeError {
 #[derive(Clone, Copy, Debug, PartialEq, Eq)]
 pub struct NoView;
 
+/// Which device failed an event, or that a page was read whose digest is another.
+#[derive(Clone, Copy, Debug, PartialEq, Eq)]
+pub enum FaultKind {
+    Damaged,
+    Disk,
+    Link,
+}
+
 /// What an event answered.
 #[derive(Debug, PartialEq, Eq, Drop)]
 pub enum FolderAnswer {
@@ -64,4 +72,6 @@ pub enum FolderAnswer {
     Dropped { epoch: u64 },
     NoView,
     Ended,
+    /// A fault. Nothing that a folder stands on fails yet, so no event is answered so.
+    Fault(FaultKind),
 }

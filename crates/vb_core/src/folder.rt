@@ -1,10 +1,12 @@
 // The folder itself: each of its calls is one event.
-ghost use Rattle.std.specs.Prelude.{◌≡◌, ◌+◌, ◌-◌, ◌<◌, ◌≤◌, ◌∷◌, ◌++◌, [], max, min, true, false, None, Some, Ok, Err, IsOk, IfOk, OnOk, OnErr, IfSome, IfNone};
+ghost use Rattle.std.specs.Prelude.{◌≡◌, ◌-◌, ◌<◌, ◌≤◌, [], ◌∷◌, ◌++◌, max, min, length, true, false, None, Some, Ok, Err, IsOk, IfOk, OnOk, OnErr, IsSome};
 ghost use Rattle.vb_tree.specs.Trees.{AreInLimits};
 ghost use Rattle.vb_tree.specs.Operations.{IsInRange, reply_of};
-ghost use Rattle.vb_hist.specs.Legal.{Opening};
-ghost use Rattle.vb_core.specs.Core.{after_call, freeze_answer, after_freeze, commit_answer, after_commit_step, upload_answer, after_upload_step, after_drop, after_end, frozen_while_on, FreezeGives, DropGives, tree_in, pushed_by_freeze, pushed_by_commit, pushed_by_upload, pushed_by_drop};
+ghost use Rattle.vb_hist.specs.Legal.{Opening, standing_without};
+ghost use Rattle.vb_core.specs.Core.{core_after, due_answer, freeze_answer, commit_answer, upload_answer, drop_answer, pushed_by_freeze, pushed_by_drop, pushed_by_commit, pushed_by_upload, frozen_while, tree_in, FreezeGives, DropGives, IsShownAfter, IsUnchanged};
 ghost use Rattle.vb_core.specs.Sound.{IsSound, new_opening};
+ghost use Rattle.vb_core.specs.declared.event.FolderEvent.TheVariants as events;
+ghost use Rattle.vb_core.specs.declared.event.FolderAnswer.TheVariants as answers;
 
 use crate::{CommitStep, FreezeError, NoView, UploadStep};
 use std::alloc::{AllocError, Global};
@@ -23,6 +25,7 @@ pub struct Folder {
     frozen: Option<Plain>,
     history: History,
     epoch: u64,
+    published: u64,
     standing: Option<u64>,
     stage: Stage,
     cloud: Cloud,
@@ -40,24 +43,25 @@ impl Model for Folder {
         limits = a.active.limits;
         history = a.history.entries;
         epoch = a.epoch;
-        published = a.cloud.epoch;
-        published_tree = a.cloud.tree;
+        sequence = 0;
+        published = a.published;
         standing = a.standing;
         stage = a.stage;
         active = a.active.tree;
         frozen = option_map (λ p. p.tree) a.frozen;
       };
       spare = a.history.spare;
+      cloud = a.cloud;
     } };
 
-    ghost invariant = { λ a. IsKept a.epoch a.cloud.epoch a.standing a.stage (option_map (λ p. p.tree) a.frozen) };
+    ghost invariant = { λ a. IsKept a.epoch a.published a.cloud.epoch a.standing a.stage (option_map (λ p. p.tree) a.frozen) };
 }
 
 impl Folder {
     /// An empty folder under these limits, and a new cloud.
     pub fn new(alloc: Global, limits: Limits) -> Result<Folder, AllocError>
         requires { AreInLimits limits }
-        ensures sound { IfOk result (λ folder. IsSound (new_opening limits) folder.core) }
+        ensures sound { IfOk result (λ folder. IsSound (new_opening limits) folder) }
         ensures empty { IfOk result (λ folder. folder.core.history ≡ []) }
         ensures spare { IfOk result (λ folder. folder.spare ≡ 0) }
         ensures succeeds { IsOk result }
@@ -67,6 +71,7 @@ impl Folder {
             frozen: None,
             history: History::new(alloc),
             epoch: 0,
+            published: 0,
             standing: None,
             stage: Stage::Rested,
             cloud: Cloud::new(alloc),
@@ -75,7 +80,7 @@ impl Folder {
 
     /// The cloud that shows what was published.
     pub fn cloud(&self) -> &Cloud
-        ensures { result.now ≡ record { epoch = self.now.core.published; tree = self.now.core.published_tree } }
+        ensures { result.now ≡ self.now.cloud }
     {
         &self.cloud
     }
@@ -87,6 +92,13 @@ impl Folder {
         ensures enough { n ≤ self.old.spare → IsOk result }
     {
         self.history.reserve(n)
+    }
+
+    /// Lowers the spare to `n`, where it is greater.
+    pub(crate) fn forget_spare(&mut self, n: usize)
+        ensures { self.new ≡ record self.old { spare = min self.old.spare n } }
+    {
+        self.history.forget_spare(n);
     }
 
     /// How many entries can be pushed without memory.
@@ -110,11 +122,11 @@ impl Folder {
         self.epoch
     }
 
-    /// The epoch that the cloud shows.
+    /// The epoch that was last published, as the folder knows.
     pub fn published(&self) -> u64
         ensures { result ≡ self.now.core.published }
     {
-        self.cloud.epoch()
+        self.published
     }
 
     /// The epoch of the frozen view that stands.
@@ -124,13 +136,16 @@ impl Folder {
         self.standing
     }
 
-    /// Plays a writer's operation on the live tree. The reply is what the history has, too.
-    pub fn call(&mut self, alloc: Global, writer: u32, op: &Op) -> Result<Reply, AllocError>
-        requires { IsInRange op.now }
-        ensures reply { IfOk result (λ reply. reply ≡ reply_of self.old.core.limits self.old.core.active op.now) }
-        ensures ok { OnOk result (self.new ≡ record { core = after_call self.old.core writer op.now; spare = self.old.spare - 1 }) }
-        ensures err { OnErr result (self.new ≡ self.old) }
-        ensures sound { (o : Opening) → IsSound o self.old.core → IsSound o self.new.core }
+    /// Plays a writer's operation on the live tree. The reply is what the history has, too. At an error the operation is
+    /// dropped, and the folder is as before.
+    pub fn call(&mut self, alloc: Global, writer: u32, op: Op) -> Result<Reply, AllocError>
+        requires { IsInRange op }
+        ensures reply { IfOk result (λ reply. reply ≡ reply_of self.old.core.limits self.old.core.active op) }
+        ensures core { IfOk result (λ reply. self.new.core ≡ core_after self.old.core (events.Call writer op) (answers.Called reply)) }
+        ensures spare { OnOk result (self.new.spare ≡ self.old.spare - 1) }
+        ensures err { OnErr result (IsUnchanged self.old self.new) }
+        ensures cloud { self.new.cloud ≡ self.old.cloud }
+        ensures sound { (o : Opening) → IsSound o self.old → IsSound o self.new }
     {
         let before = self.history.spare();
         self.history.reserve(1)?;
@@ -144,15 +159,17 @@ impl Folder {
     }
 
     /// The same where an entry can be pushed without memory.
-    fn call_reserved(&mut self, alloc: Global, writer: u32, op: &Op) -> Result<Reply, AllocError>
-        requires range { IsInRange op.now }
+    fn call_reserved(&mut self, alloc: Global, writer: u32, op: Op) -> Result<Reply, AllocError>
+        requires range { IsInRange op }
         requires spare { 0 < self.old.spare }
-        ensures reply { IfOk result (λ reply. reply ≡ reply_of self.old.core.limits self.old.core.active op.now) }
-        ensures ok { OnOk result (self.new ≡ record { core = after_call self.old.core writer op.now; spare = self.old.spare - 1 }) }
+        ensures reply { IfOk result (λ reply. reply ≡ reply_of self.old.core.limits self.old.core.active op) }
+        ensures ok { IfOk result (λ reply. self.new ≡ record self.old {
+          core = core_after self.old.core (events.Call writer op) (answers.Called reply);
+          spare = self.old.spare - 1;
+        }) }
         ensures err { OnErr result (self.new ≡ self.old) }
     {
-        let kept = op.copy(alloc)?;
-        let reply = self.active.perform(alloc, op)?;
+        let reply = self.active.perform(alloc, &op)?;
         // Where the reply is Done the tree has changed, so nothing may fail any more. Any other reply left it.
         let told = match &reply {
             Reply::Done => Reply::Done,
@@ -160,7 +177,7 @@ impl Folder {
         };
         self.history.push(Entry::Call {
             writer,
-            op: kept,
+            op,
             reply: told,
         });
         Ok(reply)
@@ -171,12 +188,13 @@ impl Folder {
     pub fn freeze(&mut self, alloc: Global, by: u32) -> Result<u64, FreezeError>
         requires { 0 < self.old.spare }
         ensures answer { FreezeGives result (freeze_answer self.old.core) }
-        ensures told { (result ≡ Err FreezeError.Memory → ⊥) → self.new ≡ record {
-          core = after_freeze self.old.core by (freeze_answer self.old.core);
-          spare = self.old.spare - pushed_by_freeze (freeze_answer self.old.core);
-        } }
-        ensures memory { result ≡ Err FreezeError.Memory → self.new ≡ self.old }
-        ensures sound { (o : Opening) → IsSound o self.old.core → IsSound o self.new.core }
+        ensures core { (result ≡ Err FreezeError.Memory → ⊥) →
+            self.new.core ≡ core_after self.old.core (events.Freeze by) (freeze_answer self.old.core) }
+        ensures spare { (result ≡ Err FreezeError.Memory → ⊥) →
+            self.new.spare ≡ self.old.spare - length (pushed_by_freeze by (freeze_answer self.old.core)) }
+        ensures memory { result ≡ Err FreezeError.Memory → IsUnchanged self.old self.new }
+        ensures cloud { self.new.cloud ≡ self.old.cloud }
+        ensures sound { (o : Opening) → IsSound o self.old → IsSound o self.new }
     {
         if self.standing.is_some() || self.stage != Stage::Rested {
             let epoch = self.epoch;
@@ -204,14 +222,14 @@ impl Folder {
     /// Goes on with the commit that is on. It needs memory only where nothing can be pushed without.
     pub fn commit_step(&mut self) -> Result<CommitStep, AllocError>
         ensures answer { IfOk result (λ step. step ≡ commit_answer self.old.core.stage) }
-        ensures ok { IfOk result (λ step. self.new ≡ record {
-          core = after_commit_step self.old.core step;
-          spare = self.old.spare - pushed_by_commit step;
-        }) }
-        ensures err { OnErr result (self.new ≡ self.old) }
+        ensures core { IfOk result (λ step. self.new.core ≡ core_after self.old.core events.CommitStep (answers.CommitStepped step)) }
+        ensures spare { IfOk result (λ step.
+            self.new.spare ≡ self.old.spare - length (pushed_by_commit self.old.core.epoch (answers.CommitStepped step))) }
+        ensures err { OnErr result (IsUnchanged self.old self.new) }
+        ensures cloud { self.new.cloud ≡ self.old.cloud }
         ensures idle { self.old.core.stage ≡ Stage.Rested → IsOk result }
         ensures enough { 0 < self.old.spare → IsOk result }
-        ensures sound { (o : Opening) → IsSound o self.old.core → IsSound o self.new.core }
+        ensures sound { (o : Opening) → IsSound o self.old → IsSound o self.new }
     {
         match self.stage {
             Stage::Rested => Ok(CommitStep::Idle),
@@ -225,9 +243,7 @@ impl Folder {
                 self.history.reserve(1)?;
                 self.history.push(Entry::Rest { epoch: self.epoch });
                 self.stage = Stage::Rested;
-                if self.standing.is_none() {
-                    self.frozen = None;
-                }
+                self.let_frozen_go();
                 Ok(CommitStep::Rested)
             }
         }
@@ -236,13 +252,12 @@ impl Folder {
     /// Publishes the committed view, in one step.
     pub fn upload_step(&mut self, alloc: Global) -> Result<UploadStep, AllocError>
         ensures answer { IfOk result (λ step. step ≡ upload_answer self.old.core.standing self.old.core.stage) }
-        ensures ok { IfOk result (λ step. self.new ≡ record {
-          core = after_upload_step self.old.core step;
-          spare = self.old.spare - pushed_by_upload step;
-        }) }
-        ensures err { OnErr result (self.new ≡ self.old) }
+        ensures core { IfOk result (λ step. self.new.core ≡ core_after self.old.core events.UploadStep (answers.UploadStepped step)) }
+        ensures spare { IfOk result (λ step. self.new.spare ≡ self.old.spare - length (pushed_by_upload (answers.UploadStepped step))) }
+        ensures cloud { IfOk result (λ step. IsShownAfter self.old.core self.old.cloud (answers.UploadStepped step) self.new.cloud) }
+        ensures err { OnErr result (IsUnchanged self.old self.new) }
         ensures nothing { upload_answer self.old.core.standing self.old.core.stage ≡ UploadStep.Nothing → IsOk result }
-        ensures sound { (o : Opening) → IsSound o self.old.core → IsSound o self.new.core }
+        ensures sound { (o : Opening) → IsSound o self.old → IsSound o self.new }
     {
         let Some(epoch) = self.standing else {
             return Ok(UploadStep::Nothing);
@@ -263,10 +278,9 @@ impl Folder {
     fn publish(&mut self, alloc: Global, epoch: u64) -> Result<(), AllocError>
         requires spare { 0 < self.old.spare }
         requires standing { self.old.core.standing ≡ Some epoch }
-        ensures ok { OnOk result (self.new ≡ record {
-          core = after_upload_step self.old.core (UploadStep.Published epoch);
-          spare = self.old.spare - 1;
-        }) }
+        ensures core { OnOk result (self.new.core ≡ core_after self.old.core events.UploadStep (answers.UploadStepped (UploadStep.Published epoch))) }
+        ensures spare { OnOk result (self.new.spare ≡ self.old.spare - 1) }
+        ensures cloud { OnOk result (IsShownAfter self.old.core self.old.cloud (answers.UploadStepped (UploadStep.Published epoch)) self.new.cloud) }
         ensures err { OnErr result (self.new ≡ self.old) }
     {
         let Some(frozen) = &self.frozen else {
@@ -275,24 +289,24 @@ impl Folder {
         match self.cloud.replace(alloc, epoch, frozen) {
             Ok(()) => {}
             Err(CloudRefusal::Memory) => return Err(AllocError),
-            Err(CloudRefusal::NotLater { .. }) => unreachable!(),
+            Err(_) => unreachable!(),
         }
-        self.standing = None;
+        self.published = epoch;
+        self.standing = standing_without(self.standing, epoch);
         self.history.push(Entry::Publish { epoch });
         self.let_frozen_go();
         Ok(())
     }
 
-    /// Lets the frozen tree go, unless its commit is still on.
+    /// Lets the frozen tree go, unless its view stands or its commit is still on.
     fn let_frozen_go(&mut self)
-        requires { self.old.core.standing ≡ None }
         ensures { self.new ≡ record self.old {
           core = record self.old.core {
-            frozen = frozen_while_on self.old.core.stage self.old.core.frozen;
+            frozen = frozen_while self.old.core.standing self.old.core.stage self.old.core.frozen;
           };
         } }
     {
-        if self.stage == Stage::Rested {
+        if self.standing.is_none() && self.stage == Stage::Rested {
             self.frozen = None;
         }
     }
@@ -300,12 +314,11 @@ impl Folder {
     /// Gives up the frozen view, and answers its epoch. A commit that is on goes on to its rest.
     pub fn drop_view(&mut self) -> Result<u64, NoView>
         requires { 0 < self.old.spare }
-        ensures answer { DropGives result self.old.core.standing }
-        ensures new { self.new ≡ record {
-          core = after_drop self.old.core self.old.core.standing;
-          spare = self.old.spare - pushed_by_drop self.old.core.standing;
-        } }
-        ensures sound { (o : Opening) → IsSound o self.old.core → IsSound o self.new.core }
+        ensures answer { DropGives result (drop_answer self.old.core.standing) }
+        ensures core { self.new.core ≡ core_after self.old.core events.DropView (drop_answer self.old.core.standing) }
+        ensures spare { self.new.spare ≡ self.old.spare - length (pushed_by_drop (drop_answer self.old.core.standing)) }
+        ensures cloud { self.new.cloud ≡ self.old.cloud }
+        ensures sound { (o : Opening) → IsSound o self.old → IsSound o self.new }
     {
         let Some(epoch) = self.standing else {
             return Err(NoView);
@@ -319,9 +332,21 @@ impl Folder {
     /// Notes that a writer ended.
     pub fn end(&mut self, writer: u32)
         requires { 0 < self.old.spare }
-        ensures new { self.new ≡ record { core = after_end self.old.core writer; spare = self.old.spare - 1 } }
-        ensures sound { (o : Opening) → IsSound o self.old.core → IsSound o self.new.core }
+        ensures core { self.new.core ≡ core_after self.old.core (events.End writer) answers.Ended }
+        ensures spare { self.new.spare ≡ self.old.spare - 1 }
+        ensures cloud { self.new.cloud ≡ self.old.cloud }
+        ensures sound { (o : Opening) → IsSound o self.old → IsSound o self.new }
     {
         self.history.push(Entry::End { writer });
+    }
+}
+
+/// What stands once this epoch is published: a view of another epoch goes on standing.
+fn standing_without(standing: Option<u64>, epoch: u64) -> Option<u64>
+    ensures { result ≡ standing_without standing epoch }
+{
+    match standing {
+        Some(other) if other != epoch => Some(other),
+        _ => None,
     }
 }

@@ -5,7 +5,9 @@ mod event;
 mod folder;
 mod steps;
 
-pub use event::{CommitStep, FolderAnswer, FolderEvent, FreezeError, NoView, UploadStep};
+pub use event::{
+    CommitStep, FaultKind, FolderAnswer, FolderEvent, FreezeError, NoView, UploadStep,
+};
 pub use folder::Folder;
 pub use steps::{Played, play};
 
