@@ -7,15 +7,12 @@ use Rattle.vb_stream.specs.Streams.{WritesFront, WritesWhole}
 pub written-second : {A : Type 0} (before first second : List ℕ) (r : Result A SinkError) (written : Option (List ℕ)) → WritesWhole (before ++ first) second r written → WritesWhole before (first ++ second) r written
 written-second before first second (Ok done) written h = h ∙ ap (λ l. Some l) (append_assoc before first second)
 written-second before first second (Err error) written h = (
-  h.0,
-  (
-    first ++ h.1.0,
-    ap (λ l. first ++ l) h.1.1 ∙ sym (append_assoc first h.1.0 h.0),
-    h.1.2 ∙ ap (λ l. Some l) (append_assoc before first h.1.0),
-  ),
+  first ++ h.0,
+  (h.1.0, append_assoc first h.0 h.1.0 ∙ ap (λ l. first ++ l) h.1.1),
+  h.2 ∙ ap (λ l. Some l) (append_assoc before first h.0),
 )
 
 -- a front of the first text is one of both
-pub written-first : (before first second : List ℕ) (written : Option (List ℕ)) → (rest : List ℕ) × WritesFront before first written rest → (rest : List ℕ) × WritesFront before (first ++ second) written rest
+pub written-first : (before first second : List ℕ) (written : Option (List ℕ)) → WritesFront before first written → WritesFront before (first ++ second) written
 written-first before first second written h =
-    (h.0 ++ second, (h.1.0, ap (λ l. l ++ second) h.1.1 ∙ append_assoc h.1.0 h.0 second, h.1.2))
+    (h.0, (h.1.0 ++ second, sym (append_assoc h.0 h.1.0 second) ∙ ap (λ l. l ++ second) h.1.1), h.2)

@@ -1,5 +1,5 @@
 -- A script that is read is short.
-use Rattle.std.proofs.Common.{◌≡◌, ℕ, ◌<◌, ◌≤◌, Bool, true, false, cond, List, [], length, take, drop, Option, Some, Result, Ok, Err, ltb, refl, sym, ap, ◌∙◌, arith}
+use Rattle.std.proofs.Common.{◌≡◌, ℕ, ◌<◌, ◌≤◌, Bool, true, false, cond, List, [], length, take, drop, Option, Some, Result, Ok, Err, ltb, refl, ap, ◌∙◌, arith}
 use Rattle.std.proofs.lemmas.List.{length-take, take-append-drop, drop_all}
 use Rattle.std.proofs.lemmas.Bool.{ltb-false}
 use Rattle.vb_stream.specs.Streams.{TakesAtMost}
@@ -26,4 +26,4 @@ nothing-left most input got left is h short =
 -- what was got is at most as much as was asked for
 pub taken-at-most : (most : ℕ) (input : List ℕ) (left : Option (List ℕ)) → left ≡ Some (drop most input) → TakesAtMost most input left
 taken-at-most most input left h =
-    (take most input, omega (arith, length-take most input), (drop most input, sym (take-append-drop most input), h))
+    (take most input, omega (arith, length-take most input), ((drop most input, take-append-drop most input), h))

@@ -1,8 +1,9 @@
 // How a run ends: its status, and the error line that stands last.
 ghost use Rattle.std.specs.Prelude.{◌≡◌};
-ghost use Rattle.vb_program.specs.Run.{status_of, error_line, status_after_fault, status_after_shortage};
+ghost use Rattle.vb_program.specs.Run.{status_of, error_line, status_after_fault, status_after_shortage, status_after};
 
 use vb_script::LineKind;
+use vb_stream::SinkError;
 
 /// What a run came to, before anything is written.
 #[derive(Clone, Copy, Debug, PartialEq, Eq)]
@@ -48,8 +49,19 @@ impl Ending {
         }
     }
 
+    /// The status of a run whose lines were written with this outcome.
+    pub fn status_after(self, outcome: Result<(), SinkError>) -> u8
+        ensures { result ≡ status_after self outcome }
+    {
+        match outcome {
+            Ok(()) => self.status(),
+            Err(SinkError::Failed) => self.status_after_fault(),
+            Err(SinkError::Memory) => self.status_after_shortage(),
+        }
+    }
+
     /// The status where a write failed.
-    pub fn status_after_fault(self) -> u8
+    fn status_after_fault(self) -> u8
         ensures { result ≡ status_after_fault self }
     {
         match self {
@@ -59,7 +71,7 @@ impl Ending {
     }
 
     /// The status where a write found no memory.
-    pub fn status_after_shortage(self) -> u8
+    fn status_after_shortage(self) -> u8
         ensures { result ≡ status_after_shortage self }
     {
         match self {

@@ -1,5 +1,5 @@
 // The error line of a script that isn't played.
-ghost use Rattle.std.specs.Prelude.{◌≡◌, []};
+ghost use Rattle.std.specs.Prelude.{◌≡◌};
 ghost use Rattle.vb_script.specs.declared.error.ScriptError.TheVariants as script;
 ghost use Rattle.vb_program.specs.Run.{kind_text, TellsRefusal};
 
@@ -26,8 +26,7 @@ fn kind_name(kind: LineKind) -> &'static [u8]
 
 /// The first wrong line of a script.
 fn refuse_wrong(report: &mut Report, line: u64, kind: LineKind) -> Ending
-    requires { report.old ≡ [] }
-    ensures { TellsRefusal (script.Wrong line kind) result report.new }
+    ensures { TellsRefusal (script.Wrong line kind) report.old result report.new }
 {
     match report.named(b"error script ", line, kind_name(kind)) {
         Ok(()) => Ending::Wrong { line, kind },
@@ -37,8 +36,7 @@ fn refuse_wrong(report: &mut Report, line: u64, kind: LineKind) -> Ending
 
 /// The line of a script that can't be played yet.
 fn refuse_not_yet(report: &mut Report, line: u64) -> Ending
-    requires { report.old ≡ [] }
-    ensures { TellsRefusal (script.NotYet line) result report.new }
+    ensures { TellsRefusal (script.NotYet line) report.old result report.new }
 {
     match report.numbered(b"error notyet ", line) {
         Ok(()) => Ending::NotYet { line },
@@ -48,8 +46,7 @@ fn refuse_not_yet(report: &mut Report, line: u64) -> Ending
 
 /// Reports why a script isn't played.
 pub fn refuse(report: &mut Report, error: ScriptError) -> Ending
-    requires { report.old ≡ [] }
-    ensures { TellsRefusal error result report.new }
+    ensures { TellsRefusal error report.old result report.new }
 {
     match error {
         ScriptError::Wrong { line, kind } => refuse_wrong(report, line, kind),

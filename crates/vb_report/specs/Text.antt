@@ -1,5 +1,5 @@
 -- What is printed of a history and of a published view. Every line ends with a line feed.
-use Rattle.std.specs.Prelude.{ℕ, ◌+◌, ◌/◌, ◌%◌, Bool, ◌||◌, nat_lt, ◌==◌, if◌then◌else◌, List, [], ◌∷◌, ◌++◌, length, codes, decimal}
+use Rattle.std.specs.Prelude.{ℕ, ◌+◌, ◌/◌, ◌%◌, Bool, ◌||◌, nat_lt, ◌==◌, if◌then◌else◌, List, [], ◌∷◌, ◌++◌, length, map, codes, decimal}
 use Rattle.std.specs.List.{flat_map}
 use Rattle.vb_tree.specs.declared.tree.Kind.{Kind}
 use Rattle.vb_tree.specs.declared.tree.Kind.TheVariants.{Folder, File}
@@ -12,6 +12,7 @@ use Rattle.vb_tree.specs.declared.reply.Refusal.{Refusal}
 use Rattle.vb_tree.specs.declared.reply.Refusal.TheVariants.{RootFixed, NoEntry, NoParent, ParentNotDir, Exists, NotAFile, NotADir, NotEmpty, IntoItself, DeepTree, TooLong, TooManyNodes, NoSpace}
 use Rattle.hex.specs.Hex.{encode_lower}
 use Rattle.vb_path.specs.Paths.{text_of_path}
+use Rattle.vb_cloud.specs.Published.{PublishedView}
 use Rattle.vb_hist.specs.declared.entry.Entry.{Entry}
 use Rattle.vb_hist.specs.declared.entry.Entry.TheVariants.{Call, Freeze, FreezeBusy, Commit, Rest, Publish, Doubt, Dropped, End, Cut}
 
@@ -127,15 +128,33 @@ entry_text (End writer) = []
 abbrev pub history_text : List Entry → List ℕ
 history_text history = flat_map entry_text history
 
+-- what is listed of an entry of a view: its path, what stands there, and its length, which is 0 for a folder
+pub record ListedEntry : Type 0 where
+  pub path : List (List ℕ)
+  pub kind : Kind
+  pub len : ℕ
+
+-- what is listed of a tree's entry
+abbrev pub listed_of : TreeEntry → ListedEntry
+listed_of e = record { path = e.path; kind = e.kind; len = length e.bytes }
+
+-- the line of a folder or a file of this length
+abbrev pub line_of_kind : Kind → List (List ℕ) → ℕ → List ℕ
+line_of_kind Folder path len = codes "folder " ++ path_text path ++ line_feed
+line_of_kind File path len = codes "file " ++ path_text path ++ codes " " ++ decimal len ++ line_feed
+
 -- the line of a listed entry
-abbrev pub listed_text : Kind → List (List ℕ) → ℕ → List ℕ
-listed_text Folder path len = codes "folder " ++ path_text path ++ line_feed
-listed_text File path len = codes "file " ++ path_text path ++ codes " " ++ decimal len ++ line_feed
+unfoldable pub listed_text : ListedEntry → List ℕ
+listed_text e = line_of_kind e.kind e.path e.len
 
--- the line of a tree's entry
-unfoldable pub tree_entry_text : TreeEntry → List ℕ
-tree_entry_text e = listed_text e.kind e.path (length e.bytes)
+-- a listing: a heading with the epoch behind it, and then the line of each entry
+abbrev pub listing_text : List ℕ → ℕ → List ListedEntry → List ℕ
+listing_text heading epoch entries = epoch_line heading epoch ++ flat_map listed_text entries
 
--- the listing of a published view: its epoch, and its entries in path order
-abbrev pub listing_text : ℕ → List TreeEntry → List ℕ
-listing_text epoch tree = epoch_line (codes "view ") epoch ++ flat_map tree_entry_text tree
+-- the listing of a published view
+abbrev pub view_text : PublishedView → List ℕ
+view_text view = listing_text (codes "view ") view.epoch (map listed_of view.tree)
+
+-- all that is printed of a history and of the view that is published at its end
+abbrev pub text_of : List Entry → PublishedView → List ℕ
+text_of history view = history_text history ++ view_text view

@@ -1,11 +1,11 @@
 // One line, piece by piece. After an error a line has some of the piece, and is of no use.
 ghost use Rattle.std.specs.Prelude.{◌≡◌, ◌++◌, ◌<◌, OnOk, codes, decimal, length};
-ghost use Rattle.vb_report.specs.Text.{hex_digit as digit_of, is_escaped as needs_escape, line_feed, escaped, path_text, refusal_text, bytes_text, names_text, info_text, reply_text, op_text, writer_text, who_text, epoch_line, named_line, numbers_text, entry_text, tree_entry_text};
+ghost use Rattle.vb_report.specs.Text.{hex_digit as digit_of, is_escaped as needs_escape, line_feed, escaped, path_text, refusal_text, bytes_text, names_text, info_text, reply_text, op_text, writer_text, who_text, epoch_line, named_line, numbers_text, entry_text, listed_text};
 
 use itoa::Buffer;
 use std::alloc::{AllocError, Global};
 use vb_hist::Entry;
-use vb_tree::{Bytes, Kind, Op, Path, Refusal, Reply, TreeEntry};
+use vb_tree::{Bytes, Kind, Op, Path, Refusal, Reply};
 
 fn put_number(line: &mut Bytes, number: u64) -> Result<(), AllocError>
     ensures { OnOk result (line.new ≡ line.old ++ decimal number) }
@@ -261,13 +261,13 @@ pub fn put_entry(line: &mut Bytes, alloc: Global, entry: &Entry) -> Result<(), A
 }
 
 /// The line of a listed entry.
-#[tactic(auto, unfolding(crate::specs::Text::tree_entry_text))]
-pub fn put_listed(line: &mut Bytes, entry: &TreeEntry) -> Result<(), AllocError>
-    ensures { OnOk result (line.new ≡ line.old ++ tree_entry_text entry.now) }
+#[tactic(auto, unfolding(crate::specs::Text::listed_text))]
+pub fn put_listed(line: &mut Bytes, path: &Path, kind: Kind, length: u64) -> Result<(), AllocError>
+    ensures { OnOk result (line.new ≡ line.old ++ listed_text (record { path = path.now; kind = kind; len = length })) }
 {
-    match entry.kind {
-        Kind::Folder => put_folder(line, &entry.path),
-        Kind::File => put_file(line, &entry.path, entry.bytes.len() as u64),
+    match kind {
+        Kind::Folder => put_folder(line, path),
+        Kind::File => put_file(line, path, length),
     }
 }
 
@@ -287,11 +287,4 @@ fn put_file(line: &mut Bytes, path: &Path, length: u64) -> Result<(), AllocError
     line.extend(b" ")?;
     put_number(line, length)?;
     line.extend(b"\n")
-}
-
-/// The heading of a listing.
-pub fn put_heading(line: &mut Bytes, epoch: u64) -> Result<(), AllocError>
-    ensures { OnOk result (line.new ≡ line.old ++ epoch_line (codes "view ") epoch) }
-{
-    put_epoch(line, b"view ", epoch)
 }

@@ -3,7 +3,7 @@ use Rattle.std.proofs.Common.{◌≡◌, ℕ, suc, ◌+◌, ◌<◌, true, false
 use Rattle.std.specs.List.{position_or_len, slice_split, onto_first}
 use Rattle.std.proofs.lemmas.Bool.Decides.{nat_tests}
 use Rattle.vb_script.specs.declared.error.LineKind.TheVariants.{Words}
-use Rattle.vb_script.specs.declared.error.LineError.TheVariants.{Wrong}
+use Rattle.vb_script.specs.Steps.{Wrong}
 use Rattle.vb_script.specs.Words.{words_of, no_word}
 
 -- the first separator ends the first piece, and without one there is one piece

@@ -8,8 +8,7 @@ use Rattle.std.proofs.lemmas.Bool.Decides.{nat_tests}
 use Rattle.vb_hist.specs.declared.script.Line.{Line}
 use Rattle.vb_hist.specs.declared.script.WriterScript.{WriterScript}
 use Rattle.vb_hist.specs.Quiet.{IsLineInRange, AreInRange, line_count}
-use Rattle.vb_script.specs.declared.draft.Draft.{Draft}
-use Rattle.vb_script.specs.Scripts.{has_writer, sections_of, AreWriters}
+use Rattle.vb_script.specs.Scripts.{Draft, has_writer, sections_of, AreWriters}
 use Rattle.vb_script.specs.Sound.{IsSound, IsSoundSection, section_lines, lines_in}
 
 -- one more element of which P holds

@@ -2,12 +2,17 @@
 use Rattle.std.specs.Prelude.{ℕ, Bool, ◌||◌, if◌then◌else◌, List, codes, Option, Some, None, Result}
 use Rattle.std.specs.Str.{bytes_eq}
 use Rattle.vb_script.specs.declared.error.LineKind.TheVariants as kind
-use Rattle.vb_script.specs.declared.error.LineError.{LineError}
-use Rattle.vb_script.specs.declared.command.Command.{Command}
-use Rattle.vb_script.specs.declared.command.Command.TheVariants as commands
-use Rattle.vb_script.specs.declared.command.Verb.{Verb}
-use Rattle.vb_script.specs.declared.command.Verb.TheVariants as verbs
-use Rattle.vb_script.specs.Steps.{or_wrong}
+use Rattle.vb_script.specs.Steps.{Fault, or_wrong}
+use Rattle.vb_script.specs.Verbs.{Verb}
+use Rattle.vb_script.specs.Verbs as verbs
+
+-- what a line asks for: it gives the disk's size, begins a writer's section, stands in one, begins the schedule, or stands in it
+pub data Command : Type 0 where
+  Disk : Command
+  Writer : Command
+  InSection : (verb : Verb) → Command
+  Schedule : Command
+  InSchedule : Command
 
 -- what a word asks for in a writer's section
 unfoldable pub verb_of : List ℕ → Option Verb
@@ -36,17 +41,17 @@ is_schedule_word word =
 -- a verb as a command
 abbrev pub in_section : Option Verb → Option Command
 in_section None = None
-in_section (Some verb) = Some (commands.InSection verb)
+in_section (Some verb) = Some (InSection verb)
 
 -- what a line's first word asks for
 unfoldable pub command_of : List ℕ → Option Command
 command_of word =
-    if bytes_eq word (codes "disk") then Some commands.Disk
-    else if bytes_eq word (codes "writer") then Some commands.Writer
-    else if bytes_eq word (codes "schedule") then Some commands.Schedule
-    else if is_schedule_word word then Some commands.InSchedule
+    if bytes_eq word (codes "disk") then Some Disk
+    else if bytes_eq word (codes "writer") then Some Writer
+    else if bytes_eq word (codes "schedule") then Some Schedule
+    else if is_schedule_word word then Some InSchedule
     else in_section (verb_of word)
 
 -- the command of a line
-abbrev pub a_command : List ℕ → Result Command LineError
+abbrev pub a_command : List ℕ → Result Command Fault
 a_command word = or_wrong kind.Unknown (command_of word)

@@ -1,14 +1,13 @@
 -- Sound drafts: what holds of everything that was read so far.
 use Rattle.std.specs.Prelude.{◌≡◌, ℕ, ◌+◌, ◌≤◌, false, List, length, Option, Some, None}
 use Rattle.std.specs.List.{AllByRecursion}
+use Rattle.vb_geometry.specs.Layout.{StoreSize}
 use Rattle.vb_hist.specs.declared.script.WriterScript.{WriterScript}
 use Rattle.vb_hist.specs.Quiet.{IsLineInRange, AreInRange, line_count}
-use Rattle.vb_script.specs.declared.script.DiskSize.{DiskSize}
-use Rattle.vb_script.specs.declared.draft.Draft.{Draft}
-use Rattle.vb_script.specs.Scripts.{has_writer, IsDiskInLimits, AreWriters}
+use Rattle.vb_script.specs.Scripts.{Draft, has_writer, IsDiskInLimits, AreWriters}
 
 -- the disk, where there is one, is within the limits of scripts
-abbrev pub IsDiskAllowed : Option DiskSize → Type 0
+abbrev pub IsDiskAllowed : Option StoreSize → Type 0
 IsDiskAllowed None = Unit {0}
 IsDiskAllowed (Some disk) = IsDiskInLimits disk
 

@@ -7,9 +7,7 @@ use Rattle.std.specs.Str.Parse.{digits_value}
 use Rattle.hex.specs.Hex.{decode_of, hex_digit_value}
 use Rattle.vb_path.specs.Paths.{path_of}
 use Rattle.vb_script.specs.declared.error.LineKind.TheVariants as kind
-use Rattle.vb_script.specs.declared.error.LineError.{LineError}
-use Rattle.vb_script.specs.declared.error.LineError.TheVariants.{Wrong}
-use Rattle.vb_script.specs.Steps.{◌>>=◌, or_wrong}
+use Rattle.vb_script.specs.Steps.{Fault, Wrong, ◌>>=◌, or_wrong}
 
 -- the lines of a script, between its line ends. What follows the last line end is a line, too: where nothing does, it is empty
 abbrev pub lines_of : List ℕ → List (List ℕ)
@@ -25,25 +23,25 @@ words_in None = []
 words_in (Some rest) = words_of rest
 
 -- the next of the words, which is there and isn't empty, and the words after it
-abbrev pub next_word : List (List ℕ) → Result (List ℕ × List (List ℕ)) LineError
+abbrev pub next_word : List (List ℕ) → Result (List ℕ × List (List ℕ)) Fault
 next_word [] = Err (Wrong kind.Words)
 next_word ([] ∷ words) = Err (Wrong kind.Words)
 next_word ((b ∷ bs) ∷ words) = Ok (b ∷ bs, words)
 
 -- no words are left
-abbrev pub no_word : List (List ℕ) → Result Unit LineError
+abbrev pub no_word : List (List ℕ) → Result Unit Fault
 no_word [] = Ok tt
 no_word (word ∷ words) = Err (Wrong kind.Words)
 
 -- exactly one word
-unfoldable pub one_word : List (List ℕ) → Result (List ℕ) LineError
+unfoldable pub one_word : List (List ℕ) → Result (List ℕ) Fault
 one_word words = do
   first ← next_word words
   end ← no_word first.1
   Ok first.0
 
 -- exactly two words
-unfoldable pub two_words : List (List ℕ) → Result (List ℕ × List ℕ) LineError
+unfoldable pub two_words : List (List ℕ) → Result (List ℕ × List ℕ) Fault
 two_words words = do
   first ← next_word words
   second ← next_word first.1
@@ -51,7 +49,7 @@ two_words words = do
   Ok (first.0, second.0)
 
 -- exactly three words
-unfoldable pub three_words : List (List ℕ) → Result (List ℕ × List ℕ × List ℕ) LineError
+unfoldable pub three_words : List (List ℕ) → Result (List ℕ × List ℕ × List ℕ) Fault
 three_words words = do
   first ← next_word words
   second ← next_word first.1
@@ -70,7 +68,7 @@ unfoldable pub number_of : List ℕ → Option ℕ
 number_of word = if is_numeral word && nat_lt (digits_value 10 word) (2 ^ 64) then Some (digits_value 10 word) else None
 
 -- NUMBER
-abbrev pub a_number : List ℕ → Result ℕ LineError
+abbrev pub a_number : List ℕ → Result ℕ Fault
 a_number word = or_wrong kind.Number (number_of word)
 
 -- the bytes that a word of hexadecimal digits stands for, two digits of either case a byte
@@ -78,7 +76,7 @@ unfoldable pub bytes_of : List ℕ → Option (List ℕ)
 bytes_of word = result_ok (decode_of word)
 
 -- HEX
-abbrev pub some_bytes : List ℕ → Result (List ℕ) LineError
+abbrev pub some_bytes : List ℕ → Result (List ℕ) Fault
 some_bytes word = or_wrong kind.Hex (bytes_of word)
 
 -- the byte of two hexadecimal digits of either case
@@ -107,5 +105,5 @@ unfoldable pub path_in : List ℕ → Option (List (List ℕ))
 path_in word = result_ok (path_of (unescaped word))
 
 -- PATH
-abbrev pub a_path : List ℕ → Result (List (List ℕ)) LineError
+abbrev pub a_path : List ℕ → Result (List (List ℕ)) Fault
 a_path word = or_wrong kind.Path (path_in word)

@@ -1,5 +1,5 @@
 // Bytes in hexadecimal digits.
-ghost use Rattle.vb_script.specs.Steps.{Gives};
+ghost use Rattle.vb_script.specs.Reader.{Gives};
 ghost use Rattle.vb_script.specs.Words.{bytes_of, some_bytes};
 
 use crate::error::{LineError, LineKind};

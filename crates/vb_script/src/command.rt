@@ -1,8 +1,11 @@
 // Commands: what a line's first word asks for.
-ghost use Rattle.std.specs.Prelude.{◌≡◌};
+ghost use Rattle.std.specs.Prelude.{◌≡◌, Ok, Err, MatchResult};
+ghost use Rattle.std.specs.Option.{option_map};
+ghost use Rattle.vb_script.specs.Steps.{Wrong};
 ghost use Rattle.vb_script.specs.Commands.{verb_of, is_schedule_word, command_of, a_command};
+ghost use Rattle.vb_script.specs.Reader.{verb_meant, command_meant};
 
-use crate::error::{LineError, LineKind};
+use crate::error::LineKind;
 
 /// What a line asks for.
 #[derive(Clone, Copy, Debug, PartialEq, Eq)]
@@ -38,7 +41,7 @@ pub(crate) enum Verb {
 /// What a word asks for in a writer's section.
 #[tactic(auto, unfolding(crate::specs::Commands::verb_of))]
 fn verb_named(word: &[u8]) -> Option<Verb>
-    ensures { result ≡ verb_of word.now }
+    ensures { option_map verb_meant result ≡ verb_of word.now }
 {
     if word == b"create".as_slice() {
         return Some(Verb::Create);
@@ -94,7 +97,7 @@ fn is_schedule_word(word: &[u8]) -> bool
 /// What a line's first word asks for.
 #[tactic(auto, unfolding(crate::specs::Commands::command_of))]
 fn command_named(word: &[u8]) -> Option<Command>
-    ensures { result ≡ command_of word.now }
+    ensures { option_map command_meant result ≡ command_of word.now }
 {
     if word == b"disk".as_slice() {
         return Some(Command::Disk);
@@ -115,11 +118,10 @@ fn command_named(word: &[u8]) -> Option<Command>
 }
 
 /// The command of a line.
-pub(crate) fn read_command(word: &[u8]) -> Result<Command, LineError>
-    ensures { result ≡ a_command word.now }
+pub(crate) fn read_command(word: &[u8]) -> Result<Command, LineKind>
+    ensures { MatchResult result
+        (λ command. a_command word.now ≡ Ok (command_meant command))
+        (λ kind. a_command word.now ≡ Err (Wrong kind)) }
 {
-    match command_named(word) {
-        Some(command) => Ok(command),
-        None => Err(LineKind::Unknown.into()),
-    }
+    command_named(word).ok_or(LineKind::Unknown)
 }

@@ -3,16 +3,25 @@ ghost use Rattle.std.specs.Prelude.{◌≡◌, ◌++◌, IfOk};
 ghost use Rattle.std.specs.Option.{option_to_list};
 ghost use Rattle.vb_script.specs.Scripts.{is_blank, sections_of, has_writer};
 
-use crate::script::DiskSize;
 use std::alloc::AllocError;
+use std::marker::Model;
+use vb_geometry::Geometry;
 use vb_hist::{Scripts, WriterScript};
 
 /// What was read so far: the disk, the sections that ended, and the one that lines go into.
 #[derive(Debug, Drop)]
 pub(crate) struct Draft {
-    pub(crate) disk: Option<DiskSize>,
+    pub(crate) disk: Option<Geometry>,
     pub(crate) ended: Scripts,
     pub(crate) section: Option<WriterScript>,
+}
+
+impl Model for Draft {
+    ghost use Rattle.vb_script.specs.Scripts as grammar;
+
+    ghost Value = { grammar.Draft };
+
+    ghost view = { λ a. record { disk = a.disk; ended = a.ended; section = a.section } };
 }
 
 /// Whether one of these writers has this number. There are at most 64.

@@ -18,7 +18,7 @@ mod words;
 
 pub use error::{LineKind, ScriptError};
 pub use read::read_script;
-pub use script::{DiskSize, Form, Script};
+pub use script::{Form, Script};
 
 #[cfg(test)]
 mod tests;

@@ -1,7 +1,7 @@
 // The lines of a writer's section.
 ghost use Rattle.std.specs.Prelude.{◌≡◌, IfOk};
 ghost use Rattle.vb_hist.specs.Quiet.{IsLineInRange};
-ghost use Rattle.vb_script.specs.Steps.{Gives};
+ghost use Rattle.vb_script.specs.Reader.{Gives, verb_meant};
 ghost use Rattle.vb_script.specs.Lines.{write_line, truncate_line, read_line, rename_line, freeze_line, line_of};
 
 use crate::bytes::read_bytes;
@@ -115,7 +115,7 @@ fn perform(op: Op) -> Result<Line, LineError>
 
 /// Reads the words after a verb.
 pub(crate) fn read_section_line(alloc: Global, verb: Verb, words: Words) -> Result<Line, LineError>
-    ensures exact { Gives result (line_of verb words.entry) }
+    ensures exact { Gives result (line_of (verb_meant verb) words.entry) }
     ensures in_range { IfOk result IsLineInRange }
 {
     match verb {

@@ -2,9 +2,10 @@
 ghost use Rattle.std.specs.Prelude.{◌≡◌};
 ghost use Rattle.std.specs.Char.{is_ascii_digit};
 ghost use Rattle.std.specs.List.{list_all};
+ghost use Rattle.vb_script.specs.Reader.{found};
 ghost use Rattle.vb_script.specs.Words.{is_numeral, number_of, a_number};
 
-use crate::error::{LineError, LineKind};
+use crate::error::LineKind;
 use std::str;
 
 /// The most digits that a number has.
@@ -42,11 +43,8 @@ fn number_in(word: &[u8]) -> Option<u64>
 }
 
 /// Reads a number.
-pub(crate) fn read_number(word: &[u8]) -> Result<u64, LineError>
-    ensures { result ≡ a_number word.now }
+pub(crate) fn read_number(word: &[u8]) -> Result<u64, LineKind>
+    ensures { found result ≡ a_number word.now }
 {
-    match number_in(word) {
-        Some(number) => Ok(number),
-        None => Err(LineKind::Number.into()),
-    }
+    number_in(word).ok_or(LineKind::Number)
 }

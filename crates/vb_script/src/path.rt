@@ -1,5 +1,5 @@
 // Paths in words.
-ghost use Rattle.vb_script.specs.Steps.{Gives};
+ghost use Rattle.vb_script.specs.Reader.{Gives};
 ghost use Rattle.vb_script.specs.Words.{path_in, a_path};
 ghost use Rattle.vb_script.specs.Lines.{one_path};
 

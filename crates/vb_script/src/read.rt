@@ -1,9 +1,11 @@
 // Scripts: a pass over the bytes, line by line.
-ghost use Rattle.std.specs.Prelude.{◌≡◌, ◌==◌, ◌+◌, ◌<◌, ◌≤◌, length, count_by, IfOk};
+ghost use Rattle.std.specs.Prelude.{◌≡◌, ◌==◌, ◌+◌, ◌<◌, ◌≤◌, length, count_by, MatchOption, IfOk};
 ghost use Rattle.vb_hist.specs.Quiet.{AreInRange, line_count};
+ghost use Rattle.vb_script.specs.declared.error.ScriptError.TheVariants.{Memory};
 ghost use Rattle.vb_script.specs.Words.{lines_of};
 ghost use Rattle.vb_script.specs.Scripts.{most_bytes, blank, refusal_at, line_at, after_lines, script_in, IsDue, IsScriptOf, AreWriters};
 ghost use Rattle.vb_script.specs.Sound.{IsSound, IsDiskAllowed, lines_in};
+ghost use Rattle.vb_script.specs.Reader.{fault_meant};
 
 use crate::draft::{Draft, sections};
 use crate::error::{LineError, LineKind, ScriptError};
@@ -18,7 +20,7 @@ const MOST_BYTES: usize = 16_777_216;
 
 /// The refusal at a line that isn't read.
 fn refusal(line: u64, error: LineError) -> ScriptError
-    ensures { refusal_at line error ≡ result }
+    ensures { MatchOption (fault_meant error) (result ≡ Memory) (λ fault. result ≡ refusal_at line fault) }
 {
     match error {
         LineError::Wrong { kind } => ScriptError::Wrong { line, kind },

@@ -1,6 +1,6 @@
 // How one more line changes what was read.
 ghost use Rattle.std.specs.Prelude.{◌≡◌, ◌+◌, ◌≤◌, IfOk};
-ghost use Rattle.vb_script.specs.Steps.{Gives};
+ghost use Rattle.vb_script.specs.Reader.{Gives, verb_meant, command_meant};
 ghost use Rattle.vb_script.specs.Scripts.{is_skipped, is_rehearsal, sections_of, disk_line, with_disk, writer_line, with_writer, with_line, after_command, with_section_line, after_line};
 ghost use Rattle.vb_script.specs.Lines.{line_of};
 ghost use Rattle.vb_script.specs.Sound.{IsSound, lines_in};
@@ -71,7 +71,7 @@ fn with_section_line(
 ) -> Result<Draft, LineError>
     requires { IsSound draft }
     ensures exact { Gives result
-        (with_section_line draft draft.section (line_of verb words.entry)) }
+        (with_section_line draft draft.section (line_of (verb_meant verb) words.entry)) }
     ensures sound { IfOk result IsSound }
     ensures few { IfOk result (λ next. lines_in next ≡ lines_in draft + 1) }
 {
@@ -102,7 +102,7 @@ fn after_command(
     words: Words,
 ) -> Result<Draft, LineError>
     requires { IsSound draft }
-    ensures exact { Gives result (after_command form draft command words.entry) }
+    ensures exact { Gives result (after_command form draft (command_meant command) words.entry) }
     ensures sound { IfOk result IsSound }
     ensures few { IfOk result (λ next. lines_in next ≤ lines_in draft + 1) }
 {

@@ -1,8 +1,10 @@
 // The words of a line.
 ghost use Rattle.std.specs.Prelude.{◌≡◌, ◌∷◌, MatchResult, Ok, Err};
+ghost use Rattle.vb_script.specs.Steps.{Wrong};
+ghost use Rattle.vb_script.specs.Reader.{found};
 ghost use Rattle.vb_script.specs.Words.{words_of, next_word, no_word, one_word, two_words, three_words};
 
-use crate::error::{LineError, LineKind};
+use crate::error::LineKind;
 use crate::split::split_once;
 use std::marker::Model;
 
@@ -34,13 +36,13 @@ impl<'a> Words<'a> {
     }
 
     /// Takes the next word, which is there and isn't empty.
-    pub(crate) fn take(&mut self) -> Result<&'a [u8], LineError>
+    pub(crate) fn take(&mut self) -> Result<&'a [u8], LineKind>
         ensures { MatchResult result
             (λ word. next_word self.old ≡ Ok (word.now, self.new))
-            (λ error. next_word self.old ≡ Err error) }
+            (λ kind. next_word self.old ≡ Err (Wrong kind)) }
     {
         let Some(text) = self.rest else {
-            return Err(LineKind::Words.into());
+            return Err(LineKind::Words);
         };
         let word = match split_once(text, b' ') {
             None => {
@@ -53,28 +55,28 @@ impl<'a> Words<'a> {
             }
         };
         if word.is_empty() {
-            return Err(LineKind::Words.into());
+            return Err(LineKind::Words);
         }
         Ok(word)
     }
 
     /// No word is left.
     #[tactic(auto, using(crate::proofs::Pieces::some_words))]
-    pub(crate) fn end(&self) -> Result<(), LineError>
-        ensures { result ≡ no_word self.now }
+    pub(crate) fn end(&self) -> Result<(), LineKind>
+        ensures { found result ≡ no_word self.now }
     {
         match self.rest {
             None => Ok(()),
-            Some(_) => Err(LineKind::Words.into()),
+            Some(_) => Err(LineKind::Words),
         }
     }
 
     /// Exactly one word.
     #[tactic(auto, unfolding(crate::specs::Words::one_word))]
-    pub(crate) fn one(mut self) -> Result<&'a [u8], LineError>
+    pub(crate) fn one(mut self) -> Result<&'a [u8], LineKind>
         ensures { MatchResult result
             (λ word. one_word self.entry ≡ Ok word.now)
-            (λ error. one_word self.entry ≡ Err error) }
+            (λ kind. one_word self.entry ≡ Err (Wrong kind)) }
     {
         let word = self.take()?;
         self.end()?;
@@ -83,10 +85,10 @@ impl<'a> Words<'a> {
 
     /// Exactly two words.
     #[tactic(auto, unfolding(crate::specs::Words::two_words))]
-    pub(crate) fn two(mut self) -> Result<(&'a [u8], &'a [u8]), LineError>
+    pub(crate) fn two(mut self) -> Result<(&'a [u8], &'a [u8]), LineKind>
         ensures { MatchResult result
             (λ words. two_words self.entry ≡ Ok (words.0.now, words.1.now))
-            (λ error. two_words self.entry ≡ Err error) }
+            (λ kind. two_words self.entry ≡ Err (Wrong kind)) }
     {
         let first = self.take()?;
         let second = self.take()?;
@@ -96,10 +98,10 @@ impl<'a> Words<'a> {
 
     /// Exactly three words.
     #[tactic(auto, unfolding(crate::specs::Words::three_words))]
-    pub(crate) fn three(mut self) -> Result<(&'a [u8], &'a [u8], &'a [u8]), LineError>
+    pub(crate) fn three(mut self) -> Result<(&'a [u8], &'a [u8], &'a [u8]), LineKind>
         ensures { MatchResult result
             (λ words. three_words self.entry ≡ Ok (words.0.now, words.1.now, words.2.now))
-            (λ error. three_words self.entry ≡ Err error) }
+            (λ kind. three_words self.entry ≡ Err (Wrong kind)) }
     {
         let first = self.take()?;
         let second = self.take()?;

@@ -11,7 +11,7 @@ invariant-loop-script l =
     let left = into_iter_items l.script-iterator in
     let limits = l.fn.folder.core.limits in
     record {
-      quiet : IsQuiet l.folder.core;
+      quiet : IsQuiet l.folder;
       played : fold (after_writer limits) l.folder.core.history left ≡ fold (after_writer limits) [] l.fn.scripts;
       range : AreInRange left;
       epochs : l.folder.core.epoch + line_count left ≤ line_count l.fn.scripts;

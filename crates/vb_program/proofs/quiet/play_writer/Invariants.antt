@@ -11,7 +11,7 @@ invariant-loop-line l =
     let left = into_iter_items l.line-iterator in
     let limits = l.fn.folder.core.limits in
     record {
-      quiet : IsQuiet l.folder.core;
+      quiet : IsQuiet l.folder;
       played : fold (after_line limits l.fn.script.writer) l.folder.core.history left ≡ fold (after_line limits l.fn.script.writer) l.fn.folder.core.history l.fn.script.lines;
       range : AllByRecursion IsLineInRange left;
       epochs : l.folder.core.epoch + length left ≤ l.fn.folder.core.epoch + length l.fn.script.lines;
