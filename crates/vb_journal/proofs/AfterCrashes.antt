@@ -35,7 +35,7 @@ reads_or_hurt : (page : List ℕ) (d new : DiskState) (place : ℕ) → IsDiskSt
 reads_or_hurt page d new place disk crash has = fixed_or_hurt page (d.cells place) (new.cells place) (ReadsUnsealed-disk d place disk) has (crash.each place)
 
 -- the image of a node is the page of its home, or what its home read as when it was hurt
-abbrev HomeIs : DiskState → DiskState → List ℕ → ℕ → Type 0
+abbrev pub HomeIs : DiskState → DiskState → List ℕ → ℕ → Type 0
 HomeIs d new page slot = (read_at new (2 + slot) ≡ page) ⊎ ((d.cells (2 + slot)).hurt ≡ Some (read_at new (2 + slot)))
 
 home_is : (page : List ℕ) (d new : DiskState) (slot : ℕ) → IsDiskState d → MayCrashTo d new → Has (Fixed page) (d.cells (2 + slot)) → HomeIs d new page slot
@@ -59,7 +59,7 @@ fits_head head epoch images homes d new c = sym c.size ∙ sym c.crash.size
 -- ---- what is recovered where this head counts
 
 -- a closed head counts
-closed_counts : (h : Head) (d new : DiskState) (pages : ℕ → List ℕ) → 38 ≤ new.size → counting new ≡ Some h → h.state ≡ Closed → h.blocks ≡ new.size → ((slot : ℕ) → slot < h.nodes → HomeIs d new (pages slot) slot) → Recovers d new h pages
+pub closed_counts : (h : Head) (d new : DiskState) (pages : ℕ → List ℕ) → 38 ≤ new.size → counting new ≡ Some h → h.state ≡ Closed → h.blocks ≡ new.size → ((slot : ℕ) → slot < h.nodes → HomeIs d new (pages slot) slot) → Recovers d new h pages
 closed_counts h d new pages large counts closed fits each =
     let reads : ℕ → List ℕ = λ q. read_at new q in
     let none : journal_of reads h ≡ [] = ap (λ (s : State). pages_from reads (2 + h.nodes) (count_of s)) closed in

@@ -19,6 +19,10 @@ gone e = Err e
 same_error : (T : Type 0) (a b : DiskError) → gone {T = T} a ≡ gone {T = T} b → a ≡ b
 same_error T a b is = cc
 
+-- the same error of another result
+pub error-too : (T U : Type 0) (a b : DiskError) → gone {T = T} a ≡ gone {T = T} b → gone {T = U} a ≡ gone {T = U} b
+error-too T U a b is = ap (λ (e : DiskError). gone {T = U} e) (same_error T a b is)
+
 -- the same call with another answer
 makes_done : {T U : Type 0} (call : DiskCall) (old new : Option DiskState) (x : T) (y : U) → Makes call old new (done x) → Makes call old new (done y)
 makes_done call old new x y m = record {

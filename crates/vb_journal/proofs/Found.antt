@@ -116,7 +116,7 @@ record MayFollow (nodes : ℕ) (before rest : List (List ℕ)) : Type 0 where
 sealed_test : (page : List ℕ) → IsSealed page → is_sealed page ≡ true
 sealed_test page is = (bytes_eq-Decides (seal_of page) (sha256 (sealed_part page))).1 is
 
-unsealed_test : (page : List ℕ) → ¬ IsSealed page → is_sealed page ≡ false
+pub unsealed_test : (page : List ℕ) → ¬ IsSealed page → is_sealed page ≡ false
 unsealed_test page unsealed = false_from_ne_true (is_sealed page) (λ is. unsealed ((bytes_eq-Decides (seal_of page) (sha256 (sealed_part page))).0 is))
 
 accepted : (nodes place : ℕ) (before rest : List (List ℕ)) (image : List ℕ) → MayFollow nodes before (image ∷ rest) → image_refusal nodes place before image ≡ None
@@ -126,7 +126,7 @@ accepted nodes place before rest image may =
     let fresh : is_named before (slot_of image) ≡ false = may.fresh 0 (omega arith) in
     rw (sealed, low, fresh) refl
 
-refused_image : (nodes place : ℕ) (before : List (List ℕ)) (page : List ℕ) → ¬ IsSealed page → image_refusal nodes place before page ≡ Some (Damaged place (seal_of page) (sha256 (sealed_part page)))
+pub refused_image : (nodes place : ℕ) (before : List (List ℕ)) (page : List ℕ) → ¬ IsSealed page → image_refusal nodes place before page ≡ Some (Damaged place (seal_of page) (sha256 (sealed_part page)))
 refused_image nodes place before page unsealed = let test : is_sealed page ≡ false = unsealed_test page unsealed in rw test refl
 
 others_follow : (nodes : ℕ) (before rest : List (List ℕ)) (image : List ℕ) → MayFollow nodes before (image ∷ rest) → MayFollow nodes (before ++ image ∷ []) rest

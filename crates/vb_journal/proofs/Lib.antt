@@ -2,7 +2,11 @@ pub mod AfterCrashes
 pub mod AfterRecoveries
 pub mod Answering
 pub mod Choices
+pub mod ChoicesOf
+pub mod ChosenDisks
+pub mod CommitRuns
 pub mod DataPlaces
+pub mod DriverSteps
 pub mod FirstCalls
 pub mod Found
 pub mod HeadReads
@@ -17,7 +21,13 @@ pub mod Mended
 pub mod NotesKept
 pub mod Overlays
 pub mod PlanSteps
+pub mod RecoverAnswers
+pub mod RecoverCalls
 pub mod RecoveredHomes
+pub mod RecoverLaws
+pub mod RecoverNotes
+pub mod RecoverStages
+pub mod RecoverSteps
 pub mod Replays
 pub mod Resting
 pub mod SameRecoveries

@@ -1,8 +1,8 @@
 -- Each step of a recovery makes the first of the calls that are left.
-use Rattle.std.proofs.Common.{◌≡◌, ℕ, zero, suc, ◌+◌, ◌-◌, ◌<◌, false, List, [], ◌∷◌, ◌++◌, length, Option, Some, None, Result, Ok, Err, refl, sym, ap, subst, ◌∙◌, arith}
+use Rattle.std.proofs.Common.{◌≡◌, ℕ, zero, suc, ◌+◌, ◌-◌, ◌<◌, false, List, [], ◌∷◌, ◌++◌, length, Option, Some, None, Result, Ok, Err, sym, ap, subst, ◌∙◌, arith}
 use Rattle.std.specs.Prelude.{IfErr}
 use Rattle.std.proofs.lemmas.List.{length-append}
-use Rattle.vb_disk.specs.States.{DiskCall, DiskState, read_at}
+use Rattle.vb_disk.specs.States.{DiskState, read_at}
 use Rattle.vb_head.specs.declared.head.Head.{Head}
 use Rattle.vb_head.specs.declared.head.State.{State}
 use Rattle.vb_head.specs.declared.head.State.TheVariants.{Opened}
@@ -12,13 +12,12 @@ use Rattle.vb_journal.specs.declared.recover_error.RecoverError.TheVariants.{Not
 use Rattle.vb_journal.specs.declared.recover_stage.RecoverStage.{RecoverStage}
 use Rattle.vb_journal.specs.declared.recover_stage.RecoverStage.TheVariants.{ReadImage, Refused}
 use Rattle.vb_journal.specs.declared.refusal.Refusal.{Refusal}
-use Rattle.vb_journal.specs.Calls.{MakesFirst}
 use Rattle.vb_journal.specs.Outcomes.{reads_of}
 use Rattle.vb_journal.specs.Recoveries.{image_refusal, is_retried, journal_of, journal_place}
-use Rattle.vb_journal.specs.Recovering.{Change, HasRead, ReadPlace, RecoverCall, first_change}
-use Rattle.vb_journal.specs.RecoveryCalls.{IsFirst, Leaves, changes, image_reads, recovery_calls_left, replay_calls, unless_refused}
+use Rattle.vb_journal.specs.Recovering.{HasRead, ReadPlace, RecoverCall}
+use Rattle.vb_journal.specs.RecoveryCalls.{IsFirst, Leaves, calls_left_in, image_reads, recovery_calls_left, replay_calls, unless_refused}
+use Rattle.vb_journal.specs.RecoverViews.{AtImage}
 use Rattle.vb_journal.specs.Shown.{pages_from}
-use Rattle.vb_journal.proofs.FirstCalls.{done}
 use Rattle.vb_journal.proofs.JournalReads.{IsWhole-more}
 
 -- no call is made again after this
@@ -66,20 +65,15 @@ image-refused begun journal image e read is = reads_next (reads_of begun) journa
 same_count : (m n : ℕ) (s : State) → s ≡ Opened m → s ≡ Opened n → m ≡ n
 same_count m n s a b = let same : Opened m ≡ Opened n = sym a ∙ b in cc same
 
-pub image-part : (begun : DiskState) (journal after : Journal) (image : List ℕ) → image ≡ read_at begun (journal_place journal.head + length journal.images) → image_refusal journal.head.nodes (journal_place journal.head + length journal.images) journal.images image ≡ None → after.head ≡ journal.head → after.images ≡ journal.images ++ image ∷ [] → recovery_calls_left (ReadImage journal) begun ≡ ReadPlace (journal_place journal.head + length journal.images) ∷ recovery_calls_left (ReadImage after) begun
-image-part begun journal after image read is head_is images_are =
+pub image-more : (begun : DiskState) (journal : Journal) (image : List ℕ) → image ≡ read_at begun (journal_place journal.head + length journal.images) → image_refusal journal.head.nodes (journal_place journal.head + length journal.images) journal.images image ≡ None → recovery_calls_left (ReadImage journal) begun ≡ ReadPlace (journal_place journal.head + length journal.images) ∷ calls_left_in (AtImage journal.head journal.count (journal.images ++ image ∷ [])) begun
+image-more begun journal image read is =
     let reads = reads_of begun in
-    let count : after.count ≡ journal.count = same_count after.count journal.count journal.head.state (ap (λ (h : Head). h.state) (sym head_is) ∙ after.opened) journal.opened in
-    let more : length after.images ≡ length journal.images + 1 = ap length images_are ∙ length-append journal.images (image ∷ []) in
-    let place : journal_place after.head + length after.images ≡ journal_place journal.head + length journal.images + 1 = ap (λ (h : Head). journal_place h + length after.images) head_is ∙ ap (λ (n : ℕ). journal_place journal.head + n) more ∙ omega arith in
-    let left : after.count - length after.images ≡ journal.count - length journal.images - 1 = omega (arith, count, more) in
-    let then : recovery_calls_left (ReadImage after) begun ≡ image_reads journal.head.nodes (next_place journal + 1) (journal.images ++ image ∷ []) (pages_from reads (next_place journal + 1) (journal.count - length journal.images - 1)) (finish begun journal) =
-    ap (λ (p : ℕ). image_reads after.head.nodes p after.images (pages_from reads p (after.count - length after.images)) (replay_calls after.head (journal_of reads after.head))) place
-    ∙ ap (λ (n : ℕ). image_reads after.head.nodes (next_place journal + 1) after.images (pages_from reads (next_place journal + 1) n) (replay_calls after.head (journal_of reads after.head))) left
-    ∙ ap (λ (l : List (List ℕ)). image_reads after.head.nodes (next_place journal + 1) l (pages_from reads (next_place journal + 1) (journal.count - length journal.images - 1)) (replay_calls after.head (journal_of reads after.head))) images_are
-    ∙ ap (λ (h : Head). image_reads h.nodes (next_place journal + 1) (journal.images ++ image ∷ []) (pages_from reads (next_place journal + 1) (journal.count - length journal.images - 1)) (replay_calls h (journal_of reads h))) head_is in
+    let more : length (journal.images ++ image ∷ []) ≡ length journal.images + 1 = length-append journal.images (image ∷ []) in
+    let place : next_place journal + 1 ≡ journal_place journal.head + length (journal.images ++ image ∷ []) = omega (arith, more) in
+    let left : journal.count - length journal.images - 1 ≡ journal.count - length (journal.images ++ image ∷ []) = omega (arith, more) in
     reads_next reads journal.head.nodes (next_place journal) (journal.count - length journal.images) journal.images image (finish begun journal) None (let some = journal.left in omega (arith, some)) read is
-    ∙ ap (λ (l : List RecoverCall). ReadPlace (next_place journal) ∷ l) (sym then)
+    ∙ ap (λ (p : ℕ). ReadPlace (next_place journal) ∷ image_reads journal.head.nodes p (journal.images ++ image ∷ []) (pages_from reads p (journal.count - length journal.images - 1)) (finish begun journal)) place
+    ∙ ap (λ (n : ℕ). ReadPlace (next_place journal) ∷ image_reads journal.head.nodes (journal_place journal.head + length (journal.images ++ image ∷ [])) (journal.images ++ image ∷ []) (pages_from reads (journal_place journal.head + length (journal.images ++ image ∷ [])) n) (finish begun journal)) left
 
 -- and where it is the last one
 pub image-last : (begun : DiskState) (journal : Journal) (image : List ℕ) (head : Head) (images : List (List ℕ)) (d : DiskState) → HasRead begun journal d → image ≡ read_at begun (journal_place journal.head + length journal.images) → image_refusal journal.head.nodes (journal_place journal.head + length journal.images) journal.images image ≡ None → head ≡ journal.head → images ≡ journal.images ++ image ∷ [] → head.state ≡ Opened (length images) → recovery_calls_left (ReadImage journal) begun ≡ ReadPlace (journal_place journal.head + length journal.images) ∷ replay_calls head images
@@ -93,14 +87,3 @@ image-last begun journal image head images d has read is head_is images_are coun
     reads_next reads journal.head.nodes (next_place journal) (journal.count - length journal.images) journal.images image (finish begun journal) None (let some = journal.left in omega (arith, some)) read is
     ∙ ap (λ (n : ℕ). ReadPlace (next_place journal) ∷ image_reads journal.head.nodes (next_place journal + 1) (journal.images ++ image ∷ []) (pages_from reads (next_place journal + 1) n) (finish begun journal)) none
     ∙ ap (λ (l : List RecoverCall). ReadPlace (next_place journal) ∷ l) same
-
--- ---- the commit
-
--- the first of its calls was made
-pub first-made : (T U : Type 0) (calls left : List DiskCall) (new : List RecoverCall) (old then : Option DiskState) (x : T) (result : Result U RecoverError) (y : U) → MakesFirst calls left old then (done x) → new ≡ changes left → result ≡ Ok y → Leaves (first_change calls) (changes calls) new result
-first-made T U [] left new old then x result y makes new_is is =
-    let Q : Result U RecoverError → Type 0 = λ r. Leaves None [] new r in
-    subst Q (sym is) (refl, new_is ∙ ap changes makes.1)
-first-made T U (call ∷ calls) left new old then x result y makes new_is is =
-    let Q : Result U RecoverError → Type 0 = λ r. Leaves (Some (Change call)) (Change call ∷ changes calls) new r in
-    subst Q (sym is) (ap (λ (l : List DiskCall). Change call ∷ changes l) (sym makes.1) ∙ ap (λ (l : List RecoverCall). Change call ∷ l) (sym new_is))

@@ -7,14 +7,9 @@ use Rattle.vb_head.specs.declared.head.Head.{Head}
 use Rattle.vb_head.specs.declared.head.HeadRead.{HeadRead}
 use Rattle.vb_head.specs.declared.head.HeadRead.TheVariants.{Good}
 use Rattle.vb_head.specs.Heads.{head_read}
-use Rattle.vb_journal.specs.declared.journal.Journal.{Journal}
 use Rattle.vb_journal.specs.declared.mending.FirstRead.{FirstRead}
-use Rattle.vb_journal.specs.declared.mending.Mending.{Mending}
 use Rattle.vb_journal.specs.declared.recover_error.RecoverError.{RecoverError}
 use Rattle.vb_journal.specs.declared.recover_stage.RecoverStage.{RecoverStage}
-use Rattle.vb_journal.specs.declared.recover_stage.RecoverStage.TheVariants.{ReadSecond, Mend, SettleMend, ReadImage, Replay}
-use Rattle.vb_journal.specs.declared.replay.Replay.{Replay as ReplayLeft}
-use Rattle.vb_journal.specs.Commits.{images_of}
 use Rattle.vb_journal.specs.Images.{slot_of}
 use Rattle.vb_journal.specs.Notes.{HasNotedAt, KeepsNotes, head_place, image_read, place_after, slots_with}
 use Rattle.vb_journal.specs.Outcomes.{reads_of}
@@ -36,12 +31,11 @@ place_low (Some a) (Some b) = one_or_none (ltb a.sequence b.sequence)
 place_low (Some a) None = omega arith
 place_low None b = omega arith
 
--- the other head was written over
-pub notes-mended : (begun : DiskState) (mending : Mending) (result : Result (Unit {0}) RecoverError) → KeepsNotes (Mend mending) (SettleMend mending) result begun
-notes-mended begun mending result place slots has =
-    let other : mending.place ≡ 1 - head_place (reads_of begun) = has.place_is in
+-- the other place is that of the head that counts
+pub other-place : (begun : DiskState) (other : ℕ) → other ≡ 1 - head_place (reads_of begun) → 1 - other ≡ head_place (reads_of begun)
+other-place begun other is =
     let low : head_place (reads_of begun) ≤ 1 = place_low (good_of (head_read (read_at begun 0))) (good_of (head_read (read_at begun 1))) in
-    record { place_is = omega (arith, other, low); slots_are = has.slots_are }
+    omega (arith, is, low)
 
 -- where both places read as one head, the first one counts
 first_place : (h : Head) → greater_place (Some h) (Some h) ≡ 0
@@ -57,34 +51,15 @@ place-one begun d first second head has second_is is same =
     let there : head_read (read_at begun 1) ≡ Good head = sym second_is ∙ sym same ∙ good in
     sym (ap (λ (r : HeadRead). greater_place (good_of r) (good_of (head_read (read_at begun 1)))) here ∙ ap (λ (r : HeadRead). greater_place (Some head) (good_of r)) there ∙ first_place head)
 
--- nothing was noted before
-pub notes-first : {T : Type 0} (begun : DiskState) (first : FirstRead) (after : RecoverStage) (result : Result T RecoverError) → HasNotedAt after 0 [] begun → KeepsNotes (ReadSecond first) after result begun
-notes-first begun first after result then place slots has =
-    let P : ℕ → Type 0 = λ p. HasNotedAt after p slots begun in
-    let S : List ℕ → Type 0 = λ s. HasNotedAt after 0 s begun in
-    subst P (sym has.place_is) (subst S (sym has.slots_are) then)
-
 -- ---- the slots
 
 -- one image more was read
-slots_more : (slots : List ℕ) (before after : List (List ℕ)) (image : List ℕ) → after ≡ before ++ image ∷ [] → slots ≡ map slot_of before → slots_with slots (last_of after) ≡ map slot_of after
-slots_more slots before after image after_is slots_are =
+pub slots-more : (slots : List ℕ) (before after : List (List ℕ)) (image : List ℕ) → after ≡ before ++ image ∷ [] → slots ≡ map slot_of before → slots_with slots (last_of after) ≡ map slot_of after
+slots-more slots before after image after_is slots_are =
     ap (slots_with slots) (ap last_of after_is ∙ last_of-more before image)
     ∙ ap (λ (s : List ℕ). s ++ slot_of image ∷ []) slots_are
     ∙ sym (map-append slot_of before (image ∷ []))
     ∙ ap (map slot_of) (sym after_is)
-
-pub notes-part : (begun : DiskState) (journal after : Journal) (image : List ℕ) (done : Unit {0}) → after.images ≡ journal.images ++ image ∷ [] → KeepsNotes {T = Unit {0}} (ReadImage journal) (ReadImage after) (Ok done) begun
-notes-part begun journal after image done more place slots has = record {
-  place_is = has.place_is;
-  slots_are = slots_more slots journal.images after.images image more has.slots_are;
-}
-
-pub notes-whole : (begun : DiskState) (journal : Journal) (replay : ReplayLeft) (image : List ℕ) (done : Unit {0}) → images_of replay.commit ≡ journal.images ++ image ∷ [] → KeepsNotes {T = Unit {0}} (ReadImage journal) (Replay replay) (Ok done) begun
-notes-whole begun journal replay image done more place slots has = record {
-  place_is = has.place_is;
-  slots_are = slots_more slots journal.images (images_of replay.commit) image more has.slots_are;
-}
 
 -- ---- a step
 

@@ -16,7 +16,7 @@ use Rattle.vb_journal.specs.declared.commit_stage.CommitStep.TheVariants.{Rested
 use Rattle.vb_journal.specs.declared.commit_stage.Stage.{Stage}
 use Rattle.vb_journal.specs.declared.commit_stage.Stage.TheVariants.{Journal, Opening, Homes, Closing, Rested}
 use Rattle.vb_journal.specs.declared.commit_stage.Turn.TheVariants.{First, FirstSync, Second, SecondSync}
-use Rattle.vb_journal.specs.Calls.{Makes, MakesFirst}
+use Rattle.vb_journal.specs.Calls.{MayFailTo, Makes, MakesFirst}
 use Rattle.vb_journal.specs.Images.{AreImages, image_at, slot_of}
 use Rattle.vb_journal.specs.Plans.{CanFinish, answer_at, calls_from, closed_head, due_call, is_rested, next_stage, opened_head}
 use Rattle.vb_journal.specs.Progress.{Fixed, Has, IsAtRest, IsCommitting, IsUnnamed}
@@ -239,6 +239,11 @@ replaying-fails T begun before epoch images stage d Failed old new can late told
     tried_replay begun before epoch images stage d new can.images_are late is (tries before epoch images (homes_of begun) (images_in begun before) stage d new can (late-going stage late) (makes.failed d told refl) is.known)
 replaying-fails T begun before epoch images stage d Memory old new can late told makes is =
     record { next = d; told_is = makes.memory refl ∙ told; known = is; moved = inl refl }
+
+-- it was made or wasn't
+pub replaying-tried : (begun : DiskState) (before : Head) (epoch : ℕ) (images : List (List ℕ)) (stage : Stage) (d : DiskState) (told : Option DiskState) → CanFinish before epoch images → is_late stage ≡ true → MayFailTo (due_call before epoch images stage) d told → IsReplaying begun before epoch images stage d → FailsAt begun before epoch images stage d told
+replaying-tried begun before epoch images stage d told can late may is =
+    tried_replay begun before epoch images stage d told can.images_are late is (tries before epoch images (homes_of begun) (images_in begun before) stage d told can (late-going stage late) may is.known)
 
 -- ---- its end
 

@@ -115,12 +115,12 @@ read_torn : (cell : Cell) (bytes : List ℕ) → cell.hurt ≡ Some bytes → re
 read_torn cell bytes hurt = ap (λ (h : Option (List ℕ)). unwrap_or h (candidate_at cell (length cell.later))) hurt
 
 -- what a list of candidates contains. The second part of `Contains` is that its position lies in the list.
-picked_of : (old new : List ℕ) (times : ℕ) (page : List ℕ) → Contains (old ∷ replicate times new) page → (page ≡ old) ⊎ (page ≡ new)
+pub picked_of : (old new : List ℕ) (times : ℕ) (page : List ℕ) → Contains (old ∷ replicate times new) page → (page ≡ old) ⊎ (page ≡ new)
 picked_of old new times page has =
     let P : List ℕ → Type 0 = λ p. (p ≡ old) ⊎ (p ≡ new) in
     subst P has.2 (tried_at old new times has.0 page has.1)
 
-alone_of : (page first : List ℕ) → Contains (page ∷ []) first → first ≡ page
+pub alone_of : (page first : List ℕ) → Contains (page ∷ []) first → first ≡ page
 alone_of page first has = elim (tried_at page page 0 has.0 first has.1) [ inl is ↦ sym has.2 ∙ is | inr is ↦ sym has.2 ∙ is ]
 
 hurt_or_whole : (hurt : Option (List ℕ)) → (hurt ≡ None) ⊎ ((bytes : List ℕ) × (hurt ≡ Some bytes))

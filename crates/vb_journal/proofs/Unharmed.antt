@@ -22,8 +22,9 @@ use Rattle.vb_journal.proofs.TriedCells.{written-here}
 
 -- ---- recovering wholly
 
-whole_homes : (old new : DiskState) (head : Head) (images : ℕ → List ℕ) → ((place : ℕ) → place < 2 + head.nodes → (old.cells place).hurt ≡ None) → Recovers old new head images → RecoversWholly new head images
-whole_homes old new head images unhurt recovers =
+-- where no home was hurt, the images are exactly these
+pub whole_found : (old new : DiskState) (head : Head) (images : ℕ → List ℕ) → ((slot : ℕ) → slot < head.nodes → (old.cells (2 + slot)).hurt ≡ None) → Recovers old new head images → RecoversWholly new head images
+whole_found old new head images unhurt recovers =
     let due = pages_from images 0 head.nodes in
     let gives : List (List ℕ) → Result Recovered RecoverError = λ l. Ok (record { head = head; images = l }) in
     let same : recovers.found ≡ due = ext_get_or [] recovers.found due (recovers.count ∙ sym (length-pages_from images 0 head.nodes))
@@ -33,9 +34,12 @@ whole_homes old new head images unhurt recovers =
     let at : image_at due slot ≡ images slot = pages_from-at images 0 head.nodes slot low ∙ ap images front in
     elim (recovers.each slot low) [
       | inl is ↦ is ∙ sym at
-      | inr hurt ↦ absurd (let whole = unhurt (2 + slot) (omega arith) in cc)
+      | inr hurt ↦ absurd (let whole = unhurt slot low in cc)
     ]) in
     recovers.is ∙ ap gives same
+
+whole_homes : (old new : DiskState) (head : Head) (images : ℕ → List ℕ) → ((place : ℕ) → place < 2 + head.nodes → (old.cells place).hurt ≡ None) → Recovers old new head images → RecoversWholly new head images
+whole_homes old new head images unhurt recovers = whole_found old new head images (λ slot within. unhurt (2 + slot) (omega (arith, within))) recovers
 
 counted_were_written : (count : ℕ) (stage : Stage) → counted_at count stage ≤ written_at count stage
 counted_were_written count (Journal next) = omega arith

@@ -5,23 +5,28 @@ use Rattle.vb_disk.specs.States.{DiskState}
 use Rattle.vb_journal.specs.declared.recover_stage.RecoverStage.{RecoverStage}
 use Rattle.vb_journal.specs.declared.recover_stage.RecoverStage.TheVariants.{Ask, Settle, ReadFirst, ReadSecond, Mend, SettleMend, ReadImage, Replay, Ready, Refused}
 use Rattle.vb_journal.specs.Recovering.{IsRecovering}
+use Rattle.vb_journal.specs.RecoverViews.{RecoverView, AtAsk, AtSettle, AtFirst, AtSecond, AtMend, AtSettleMend, AtImage, AtReplay, AtReady, AtRefused, view_of}
 
 -- each place has one candidate, as after each sync and each crash
 abbrev pub AreSettled : DiskState → Type 0
 AreSettled d = (place : ℕ) → (d.cells place).later ≡ []
 
 -- whether the first sync was made
+abbrev pub is_synced_in : RecoverView → Bool
+is_synced_in AtAsk = false
+is_synced_in (AtSettle places) = false
+is_synced_in (AtFirst places) = true
+is_synced_in (AtSecond places read) = true
+is_synced_in (AtMend head other) = true
+is_synced_in (AtSettleMend head other) = true
+is_synced_in (AtImage head count images) = true
+is_synced_in (AtReplay head epoch images stage) = true
+is_synced_in (AtReady head) = true
+is_synced_in (AtRefused why) = true
+
+-- so it is at a stage
 abbrev pub is_synced : RecoverStage → Bool
-is_synced Ask = false
-is_synced (Settle size) = false
-is_synced (ReadFirst size) = true
-is_synced (ReadSecond first) = true
-is_synced (Mend mending) = true
-is_synced (SettleMend mending) = true
-is_synced (ReadImage journal) = true
-is_synced (Replay replay) = true
-is_synced (Ready ready) = true
-is_synced (Refused refusal) = true
+is_synced stage = is_synced_in (view_of stage)
 
 -- a crash at this stage leaves what the recovery began with: up to the first sync where each place had one candidate
 -- then, and while the other head is mended where that one wasn't hurt

@@ -1,4 +1,7 @@
 pub mod Calls
+pub mod Choices
+pub mod Chosen
+pub mod CommitSteps
 pub mod Commits
 pub mod Data
 pub mod Images
@@ -10,6 +13,8 @@ pub mod Outcomes
 pub mod Plans
 pub mod Progress
 pub mod Recoveries
+pub mod RecoverSteps
+pub mod RecoverViews
 pub mod Recovering
 pub mod Recovers
 pub mod RecoveryCalls

@@ -7,13 +7,12 @@ use Rattle.vb_head.specs.Heads.{head_read}
 use Rattle.vb_journal.specs.declared.recover.Recover.{Recover}
 use Rattle.vb_journal.specs.declared.recover_error.RecoverError.{RecoverError}
 use Rattle.vb_journal.specs.declared.recover_stage.RecoverStage.{RecoverStage}
-use Rattle.vb_journal.specs.declared.recover_stage.RecoverStage.TheVariants.{Ask, Settle, ReadFirst, ReadSecond, Mend, SettleMend, ReadImage, Replay, Ready, Refused}
-use Rattle.vb_journal.specs.Commits.{images_of}
 use Rattle.vb_journal.specs.Images.{slot_of}
 use Rattle.vb_journal.specs.Outcomes.{reads_of}
 use Rattle.vb_journal.specs.Recoveries.{choice_of, greater_place, journal_of}
 use Rattle.vb_journal.specs.Recovering.{images_by}
 use Rattle.vb_journal.specs.Recovers.{is_reading, last_of}
+use Rattle.vb_journal.specs.RecoverViews.{RecoverView, AtAsk, AtSettle, AtFirst, AtSecond, AtMend, AtSettleMend, AtImage, AtReplay, AtReady, AtRefused, view_of}
 use Rattle.vb_journal.specs.Shown.{good_of}
 
 -- the place of the head that counts
@@ -35,30 +34,38 @@ pub record IsNoted (begun : DiskState) (place : ℕ) (slots : List ℕ) : Type 0
 
 -- the place that is noted at a stage: none before the heads were read, and then that of the head that counts. While
 -- the other one is to be mended, the stage has the place of that one.
+abbrev pub IsPlaceAt_in : RecoverView → ℕ → DiskState → Type 0
+IsPlaceAt_in AtAsk place begun = place ≡ 0
+IsPlaceAt_in (AtSettle places) place begun = place ≡ 0
+IsPlaceAt_in (AtFirst places) place begun = place ≡ 0
+IsPlaceAt_in (AtSecond places read) place begun = place ≡ 0
+IsPlaceAt_in (AtMend head other) place begun = other ≡ 1 - head_place (reads_of begun)
+IsPlaceAt_in (AtSettleMend head other) place begun = place ≡ head_place (reads_of begun)
+IsPlaceAt_in (AtImage head count images) place begun = place ≡ head_place (reads_of begun)
+IsPlaceAt_in (AtReplay head epoch images stage) place begun = place ≡ head_place (reads_of begun)
+IsPlaceAt_in (AtReady head) place begun = place ≡ head_place (reads_of begun)
+IsPlaceAt_in (AtRefused why) place begun = Unit {0}
+
+-- so it is at a stage
 abbrev pub IsPlaceAt : RecoverStage → ℕ → DiskState → Type 0
-IsPlaceAt Ask place begun = place ≡ 0
-IsPlaceAt (Settle size) place begun = place ≡ 0
-IsPlaceAt (ReadFirst size) place begun = place ≡ 0
-IsPlaceAt (ReadSecond first) place begun = place ≡ 0
-IsPlaceAt (Mend mending) place begun = mending.place ≡ 1 - head_place (reads_of begun)
-IsPlaceAt (SettleMend mending) place begun = place ≡ head_place (reads_of begun)
-IsPlaceAt (ReadImage journal) place begun = place ≡ head_place (reads_of begun)
-IsPlaceAt (Replay replay) place begun = place ≡ head_place (reads_of begun)
-IsPlaceAt (Ready ready) place begun = place ≡ head_place (reads_of begun)
-IsPlaceAt (Refused refusal) place begun = Unit {0}
+IsPlaceAt stage place begun = IsPlaceAt_in (view_of stage) place begun
 
 -- the slots that are noted at a stage: those of the images that were read
+abbrev pub AreSlotsAt_in : RecoverView → List ℕ → DiskState → Type 0
+AreSlotsAt_in AtAsk slots begun = slots ≡ []
+AreSlotsAt_in (AtSettle places) slots begun = slots ≡ []
+AreSlotsAt_in (AtFirst places) slots begun = slots ≡ []
+AreSlotsAt_in (AtSecond places read) slots begun = slots ≡ []
+AreSlotsAt_in (AtMend head other) slots begun = slots ≡ []
+AreSlotsAt_in (AtSettleMend head other) slots begun = slots ≡ []
+AreSlotsAt_in (AtImage head count images) slots begun = slots ≡ map slot_of images
+AreSlotsAt_in (AtReplay head epoch images stage) slots begun = slots ≡ map slot_of images
+AreSlotsAt_in (AtReady head) slots begun = AreJournalSlots begun slots
+AreSlotsAt_in (AtRefused why) slots begun = Unit {0}
+
+-- so it is at a stage
 abbrev pub AreSlotsAt : RecoverStage → List ℕ → DiskState → Type 0
-AreSlotsAt Ask slots begun = slots ≡ []
-AreSlotsAt (Settle size) slots begun = slots ≡ []
-AreSlotsAt (ReadFirst size) slots begun = slots ≡ []
-AreSlotsAt (ReadSecond first) slots begun = slots ≡ []
-AreSlotsAt (Mend mending) slots begun = slots ≡ []
-AreSlotsAt (SettleMend mending) slots begun = slots ≡ []
-AreSlotsAt (ReadImage journal) slots begun = slots ≡ map slot_of journal.images
-AreSlotsAt (Replay replay) slots begun = slots ≡ map slot_of (images_of replay.commit)
-AreSlotsAt (Ready ready) slots begun = AreJournalSlots begun slots
-AreSlotsAt (Refused refusal) slots begun = Unit {0}
+AreSlotsAt stage slots begun = AreSlotsAt_in (view_of stage) slots begun
 
 -- a recovery that began on this disk has noted these at a stage
 pub record HasNotedAt (stage : RecoverStage) (place : ℕ) (slots : List ℕ) (begun : DiskState) : Type 0 where
@@ -76,17 +83,21 @@ slots_noted r = r.slots.items
 -- ---- steps
 
 -- the place that is noted once a step was made from a stage
+abbrev pub place_after_in : RecoverView → ℕ → ℕ
+place_after_in AtAsk place = place
+place_after_in (AtSettle places) place = place
+place_after_in (AtFirst places) place = place
+place_after_in (AtSecond places read) place = place
+place_after_in (AtMend head other) place = 1 - other
+place_after_in (AtSettleMend head other) place = place
+place_after_in (AtImage head count images) place = place
+place_after_in (AtReplay head epoch images stage) place = place
+place_after_in (AtReady head) place = place
+place_after_in (AtRefused why) place = place
+
+-- so it is at a stage
 abbrev pub place_after : RecoverStage → ℕ → ℕ
-place_after Ask place = place
-place_after (Settle size) place = place
-place_after (ReadFirst size) place = place
-place_after (ReadSecond first) place = place
-place_after (Mend mending) place = 1 - mending.place
-place_after (SettleMend mending) place = place
-place_after (ReadImage journal) place = place
-place_after (Replay replay) place = place
-place_after (Ready ready) place = place
-place_after (Refused refusal) place = place
+place_after stage place = place_after_in (view_of stage) place
 
 -- the slots, with that of an image behind them where one was read
 abbrev pub slots_with : List ℕ → Option (List ℕ) → List ℕ

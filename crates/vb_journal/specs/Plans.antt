@@ -12,6 +12,7 @@ use Rattle.vb_journal.specs.declared.commit_stage.Turn.{Turn}
 use Rattle.vb_journal.specs.declared.commit_stage.Turn.TheVariants.{First, FirstSync, Second, SecondSync}
 use Rattle.vb_journal.specs.Calls.{turn_after, turn_call, turn_calls}
 use Rattle.vb_journal.specs.Images.{AreImages, image_at, slot_of}
+use Rattle.vb_steps.specs.Calls.{Call, Change, Rest}
 
 -- these images may be committed at this epoch over a store with this head
 pub record CanCommit (head : Head) (epoch : ℕ) (images : List (List ℕ)) : Type 0 where
@@ -81,6 +82,14 @@ due_call head epoch images (Opening turn) = turn_call (head_page (opened_head he
 due_call head epoch images (Homes next) = if nat_lt next (length images) then Write (2 + slot_of (image_at images next)) (image_at images next) else Sync
 due_call head epoch images (Closing turn) = turn_call (head_page (closed_head head epoch)) turn
 due_call head epoch images Rested = Sync
+
+-- the call that a step makes at a stage: the one that is due, or none
+abbrev pub call_at : Head → ℕ → List (List ℕ) → Stage → Call
+call_at head epoch images (Journal next) = Change (due_call head epoch images (Journal next))
+call_at head epoch images (Opening turn) = Change (due_call head epoch images (Opening turn))
+call_at head epoch images (Homes next) = Change (due_call head epoch images (Homes next))
+call_at head epoch images (Closing turn) = Change (due_call head epoch images (Closing turn))
+call_at head epoch images Rested = Rest
 
 -- the next turn of these, or else the stage after them
 abbrev pub after_turn : (Turn → Stage) → Stage → Option Turn → Stage

@@ -6,6 +6,7 @@ use Rattle.vb_disk.specs.Crashes.{MayCrashTo}
 use Rattle.vb_disk.specs.Moments.{EachMoment}
 use Rattle.vb_disk.specs.States.{DiskState, DiskCall, Write, Sync, IsDiskState, after_call, read_at}
 use Rattle.vb_head.specs.declared.head.Head.{Head}
+use Rattle.vb_head.specs.declared.head.HeadRead.{HeadRead}
 use Rattle.vb_head.specs.declared.head.HeadRead.TheVariants.{Good}
 use Rattle.vb_head.specs.declared.head.State.TheVariants.{Closed}
 use Rattle.vb_head.specs.Heads.{IsHead, head_page, head_read}
@@ -18,11 +19,11 @@ use Rattle.vb_journal.specs.declared.recover_error.RecoverError.TheVariants.{Not
 use Rattle.vb_journal.specs.declared.recover_stage.RecoverStage.{RecoverStage}
 use Rattle.vb_journal.specs.declared.recover_stage.RecoverStage.TheVariants.{Ask, Settle, ReadFirst, ReadSecond, Mend, SettleMend, ReadImage, Replay, Ready, Refused}
 use Rattle.vb_journal.specs.Calls.{MayFailTo}
-use Rattle.vb_journal.specs.Commits.{calls_left, epoch_of, head_of, images_of, stage_of}
 use Rattle.vb_journal.specs.Images.{image_at, slot_of}
 use Rattle.vb_journal.specs.Outcomes.{IsHurt, reads_of, recovery_on}
-use Rattle.vb_journal.specs.Plans.{opened_head}
+use Rattle.vb_journal.specs.Plans.{calls_from, opened_head}
 use Rattle.vb_journal.specs.Progress.{IsCommitting, IsUnnamed}
+use Rattle.vb_journal.specs.RecoverViews.{RecoverView, AtAsk, AtSettle, AtFirst, AtSecond, AtMend, AtSettleMend, AtImage, AtReplay, AtReady, AtRefused, view_of}
 use Rattle.vb_journal.specs.Recoveries.{choice_of, images_refusal, journal_of, journal_place, journal_refusal, recovery_of, settled_head}
 use Rattle.vb_journal.specs.Shown.{image_over, pages_from}
 
@@ -41,17 +42,21 @@ first_change (call ∷ calls) = Some (Change call)
 
 -- the call that is due at a stage: the size, a sync, both heads, the head that counts over the other one and a sync,
 -- each image of the journal, and what is left of its commit. None is due at the end.
+abbrev pub due_in : RecoverView → Option RecoverCall
+due_in AtAsk = Some AskSize
+due_in (AtSettle places) = Some (Change Sync)
+due_in (AtFirst places) = Some (ReadPlace 0)
+due_in (AtSecond places read) = Some (ReadPlace 1)
+due_in (AtMend head other) = Some (Change (Write other (head_page head)))
+due_in (AtSettleMend head other) = Some (Change Sync)
+due_in (AtImage head count images) = Some (ReadPlace (journal_place head + length images))
+due_in (AtReplay head epoch images stage) = first_change (calls_from head epoch images stage)
+due_in (AtReady head) = None
+due_in (AtRefused why) = None
+
+-- so it is at a stage
 abbrev pub due_of : RecoverStage → Option RecoverCall
-due_of Ask = Some AskSize
-due_of (Settle size) = Some (Change Sync)
-due_of (ReadFirst size) = Some (ReadPlace 0)
-due_of (ReadSecond first) = Some (ReadPlace 1)
-due_of (Mend mending) = Some (Change (Write mending.place (head_page mending.head)))
-due_of (SettleMend mending) = Some (Change Sync)
-due_of (ReadImage journal) = Some (ReadPlace (journal_place journal.head + length journal.images))
-due_of (Replay replay) = first_change (calls_left replay.commit)
-due_of (Ready ready) = None
-due_of (Refused refusal) = None
+due_of stage = due_in (view_of stage)
 
 -- a call that changes a disk was made at Ok, and was not for want of memory
 pub record Changes {T : Type 0} (call : DiskCall) (old new : Option DiskState) (result : Result T RecoverError) : Type 0 where
@@ -68,43 +73,55 @@ MakesCall (Some (ReadPlace place)) old new result = new ≡ old
 MakesCall (Some (Change call)) old new result = Changes call old new result
 
 -- the images of the journal that were read
+abbrev pub images_in_view : RecoverView → List (List ℕ)
+images_in_view AtAsk = []
+images_in_view (AtSettle places) = []
+images_in_view (AtFirst places) = []
+images_in_view (AtSecond places read) = []
+images_in_view (AtMend head other) = []
+images_in_view (AtSettleMend head other) = []
+images_in_view (AtImage head count images) = images
+images_in_view (AtReplay head epoch images stage) = images
+images_in_view (AtReady head) = []
+images_in_view (AtRefused why) = []
+
+-- so it is at a stage
 abbrev pub images_by : RecoverStage → List (List ℕ)
-images_by Ask = []
-images_by (Settle size) = []
-images_by (ReadFirst size) = []
-images_by (ReadSecond first) = []
-images_by (Mend mending) = []
-images_by (SettleMend mending) = []
-images_by (ReadImage journal) = journal.images
-images_by (Replay replay) = images_of replay.commit
-images_by (Ready ready) = []
-images_by (Refused refusal) = []
+images_by stage = images_in_view (view_of stage)
 
 -- how many slots of images may be noted at a stage
+abbrev pub most_slots_in : RecoverView → ℕ
+most_slots_in AtAsk = 0
+most_slots_in (AtSettle places) = 0
+most_slots_in (AtFirst places) = 0
+most_slots_in (AtSecond places read) = 0
+most_slots_in (AtMend head other) = 0
+most_slots_in (AtSettleMend head other) = 0
+most_slots_in (AtImage head count images) = length images
+most_slots_in (AtReplay head epoch images stage) = 65536
+most_slots_in (AtReady head) = 65536
+most_slots_in (AtRefused why) = 65536
+
+-- so it is at a stage
 abbrev pub most_slots : RecoverStage → ℕ
-most_slots Ask = 0
-most_slots (Settle size) = 0
-most_slots (ReadFirst size) = 0
-most_slots (ReadSecond first) = 0
-most_slots (Mend mending) = 0
-most_slots (SettleMend mending) = 0
-most_slots (ReadImage journal) = length journal.images
-most_slots (Replay replay) = 65536
-most_slots (Ready ready) = 65536
-most_slots (Refused refusal) = 65536
+most_slots stage = most_slots_in (view_of stage)
 
 -- how many nodes the store has whose images are read, or taken home
+abbrev pub nodes_in : RecoverView → Option ℕ
+nodes_in AtAsk = None
+nodes_in (AtSettle places) = None
+nodes_in (AtFirst places) = None
+nodes_in (AtSecond places read) = None
+nodes_in (AtMend head other) = None
+nodes_in (AtSettleMend head other) = None
+nodes_in (AtImage head count images) = Some head.nodes
+nodes_in (AtReplay head epoch images stage) = Some head.nodes
+nodes_in (AtReady head) = None
+nodes_in (AtRefused why) = None
+
+-- so it is at a stage
 abbrev pub nodes_of : RecoverStage → Option ℕ
-nodes_of Ask = None
-nodes_of (Settle size) = None
-nodes_of (ReadFirst size) = None
-nodes_of (ReadSecond first) = None
-nodes_of (Mend mending) = None
-nodes_of (SettleMend mending) = None
-nodes_of (ReadImage journal) = Some journal.head.nodes
-nodes_of (Replay replay) = Some (head_of replay.commit).nodes
-nodes_of (Ready ready) = None
-nodes_of (Refused refusal) = None
+nodes_of stage = nodes_in (view_of stage)
 
 -- the seen size stands, unless it was asked
 abbrev pub SeenStays : Option RecoverCall → ℕ → ℕ → Type 0
@@ -129,43 +146,55 @@ TakesImage (Ready ready) new told = Unit {0}
 TakesImage (Refused refusal) new told = Unit {0}
 
 -- the size of the disk as far as the recovery relies on it
+abbrev pub blocks_in : RecoverView → ℕ
+blocks_in AtAsk = 0
+blocks_in (AtSettle places) = places
+blocks_in (AtFirst places) = places
+blocks_in (AtSecond places read) = places
+blocks_in (AtMend head other) = head.blocks
+blocks_in (AtSettleMend head other) = head.blocks
+blocks_in (AtImage head count images) = head.blocks
+blocks_in (AtReplay head epoch images stage) = head.blocks
+blocks_in (AtReady head) = head.blocks
+blocks_in (AtRefused why) = 0
+
+-- so it is at a stage
 abbrev pub blocks_of : RecoverStage → ℕ
-blocks_of Ask = 0
-blocks_of (Settle size) = size.places
-blocks_of (ReadFirst size) = size.places
-blocks_of (ReadSecond first) = first.size.places
-blocks_of (Mend mending) = mending.head.blocks
-blocks_of (SettleMend mending) = mending.head.blocks
-blocks_of (ReadImage journal) = journal.head.blocks
-blocks_of (Replay replay) = (head_of replay.commit).blocks
-blocks_of (Ready ready) = ready.head.blocks
-blocks_of (Refused refusal) = 0
+blocks_of stage = blocks_in (view_of stage)
 
 -- the stage is the end, with this refusal
+abbrev pub HasEnded_in : RecoverView → RecoverError → Type 0
+HasEnded_in AtAsk error = ⊥
+HasEnded_in (AtSettle places) error = ⊥
+HasEnded_in (AtFirst places) error = ⊥
+HasEnded_in (AtSecond places read) error = ⊥
+HasEnded_in (AtMend head other) error = ⊥
+HasEnded_in (AtSettleMend head other) error = ⊥
+HasEnded_in (AtImage head count images) error = ⊥
+HasEnded_in (AtReplay head epoch images stage) error = ⊥
+HasEnded_in (AtReady head) error = ⊥
+HasEnded_in (AtRefused why) error = why ≡ error
+
+-- so it is at a stage
 abbrev pub HasEnded : RecoverStage → RecoverError → Type 0
-HasEnded Ask error = ⊥
-HasEnded (Settle size) error = ⊥
-HasEnded (ReadFirst size) error = ⊥
-HasEnded (ReadSecond first) error = ⊥
-HasEnded (Mend mending) error = ⊥
-HasEnded (SettleMend mending) error = ⊥
-HasEnded (ReadImage journal) error = ⊥
-HasEnded (Replay replay) error = ⊥
-HasEnded (Ready ready) error = ⊥
-HasEnded (Refused refusal) error = refusal.error ≡ error
+HasEnded stage error = HasEnded_in (view_of stage) error
 
 -- whether the stage is the end, with a refusal
+abbrev pub is_refused_in : RecoverView → Bool
+is_refused_in AtAsk = false
+is_refused_in (AtSettle places) = false
+is_refused_in (AtFirst places) = false
+is_refused_in (AtSecond places read) = false
+is_refused_in (AtMend head other) = false
+is_refused_in (AtSettleMend head other) = false
+is_refused_in (AtImage head count images) = false
+is_refused_in (AtReplay head epoch images stage) = false
+is_refused_in (AtReady head) = false
+is_refused_in (AtRefused why) = true
+
+-- so it is at a stage
 abbrev pub is_refused : RecoverStage → Bool
-is_refused Ask = false
-is_refused (Settle size) = false
-is_refused (ReadFirst size) = false
-is_refused (ReadSecond first) = false
-is_refused (Mend mending) = false
-is_refused (SettleMend mending) = false
-is_refused (ReadImage journal) = false
-is_refused (Replay replay) = false
-is_refused (Ready ready) = false
-is_refused (Refused refusal) = true
+is_refused stage = is_refused_in (view_of stage)
 
 -- after a fault and for want of memory the same call is due, and else the recovery has ended with this error
 abbrev pub StandsAfter : RecoverStage → RecoverStage → RecoverError → Type 0
@@ -193,11 +222,15 @@ pub record StandsFrom (place : ℕ) (begun d : DiskState) : Type 0 where
   pub each : (other : ℕ) → place ≤ other → d.cells other ≡ synced_cell (begun.cells other)
 
 -- the first head was read, and is the one page of its head where it is one
-pub record HasReadFirst (begun : DiskState) (first : FirstRead) (d : DiskState) : Type 0 where
+pub record HasReadHead (begun : DiskState) (places : ℕ) (first : HeadRead) (d : DiskState) : Type 0 where
   pub stands : StandsFrom 0 begun d
-  pub size : first.size.places ≡ begun.size
-  pub read : first.read ≡ head_read (read_at begun 0)
-  pub spelled : (h : Head) → first.read ≡ Good h → read_at begun 0 ≡ head_page h
+  pub size : places ≡ begun.size
+  pub read : first ≡ head_read (read_at begun 0)
+  pub spelled : (h : Head) → first ≡ Good h → read_at begun 0 ≡ head_page h
+
+-- so it was
+abbrev pub HasReadFirst : DiskState → FirstRead → DiskState → Type 0
+HasReadFirst begun first d = HasReadHead begun first.size.places first.read d
 
 -- this head counts, and both copies are whole
 pub record HasBothHeads (begun : DiskState) (head : Head) (d : DiskState) : Type 0 where
@@ -225,10 +258,14 @@ pub record IsMending (begun : DiskState) (head : Head) (place : ℕ) (Other : Di
   pub other : Other begun head place (d.cells place)
 
 -- the images were read and aren't refused
-pub record HasRead (begun : DiskState) (journal : JournalRead) (d : DiskState) : Type 0 where
-  pub heads : HasBothHeads begun journal.head d
-  pub images : journal.images ≡ pages_from (reads_of begun) (journal_place journal.head) (length journal.images)
-  pub accepted : images_refusal journal.head.nodes (journal_place journal.head) [] journal.images ≡ None
+pub record HasReadImages (begun : DiskState) (head : Head) (taken : List (List ℕ)) (d : DiskState) : Type 0 where
+  pub heads : HasBothHeads begun head d
+  pub images : taken ≡ pages_from (reads_of begun) (journal_place head) (length taken)
+  pub accepted : images_refusal head.nodes (journal_place head) [] taken ≡ None
+
+-- so they were
+abbrev pub HasRead : DiskState → JournalRead → DiskState → Type 0
+HasRead begun journal d = HasReadImages begun journal.head journal.images d
 
 -- what stood at the homes when the recovery began
 abbrev pub homes_of : DiskState → ℕ → List ℕ
@@ -305,17 +342,21 @@ pub record IsHopeless (begun : DiskState) (error : RecoverError) (d : DiskState)
   pub crashes : RecoversAfter begun d
 
 -- what is known at each stage of the disk, by what it was when the recovery began
+abbrev pub IsRecovering_in : RecoverView → DiskState → DiskState → Type 0
+IsRecovering_in AtAsk begun d = d ≡ begun
+IsRecovering_in (AtSettle places) begun d = (d ≡ begun) × IsDiskState begun × (places ≡ begun.size)
+IsRecovering_in (AtFirst places) begun d = StandsFrom 0 begun d × (places ≡ begun.size)
+IsRecovering_in (AtSecond places read) begun d = HasReadHead begun places read d
+IsRecovering_in (AtMend head other) begun d = IsMending begun head other MayBeMended d
+IsRecovering_in (AtSettleMend head other) begun d = IsMending begun head other IsMended d
+IsRecovering_in (AtImage head count images) begun d = HasReadImages begun head images d
+IsRecovering_in (AtReplay head epoch images stage) begun d = IsReplaying begun head epoch images stage d
+IsRecovering_in (AtReady head) begun d = IsRecovered begun head d
+IsRecovering_in (AtRefused why) begun d = IsHopeless begun why d
+
+-- so it is at a stage
 abbrev pub IsRecovering : RecoverStage → DiskState → DiskState → Type 0
-IsRecovering Ask begun d = d ≡ begun
-IsRecovering (Settle size) begun d = (d ≡ begun) × IsDiskState begun × (size.places ≡ begun.size)
-IsRecovering (ReadFirst size) begun d = StandsFrom 0 begun d × (size.places ≡ begun.size)
-IsRecovering (ReadSecond first) begun d = HasReadFirst begun first d
-IsRecovering (Mend mending) begun d = IsMending begun mending.head mending.place MayBeMended d
-IsRecovering (SettleMend mending) begun d = IsMending begun mending.head mending.place IsMended d
-IsRecovering (ReadImage journal) begun d = HasRead begun journal d
-IsRecovering (Replay replay) begun d = IsReplaying begun (head_of replay.commit) (epoch_of replay.commit) (images_of replay.commit) (stage_of replay.commit) d
-IsRecovering (Ready ready) begun d = IsRecovered begun ready.head d
-IsRecovering (Refused refusal) begun d = IsHopeless begun refusal.error d
+IsRecovering stage begun d = IsRecovering_in (view_of stage) begun d
 
 -- ---- what crashes leave
 

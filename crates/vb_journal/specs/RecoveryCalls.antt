@@ -1,22 +1,21 @@
 -- The calls of a recovery, in their order, by the size of the disk and what reads give.
-use Rattle.std.specs.Prelude.{◌≡◌, ℕ, ◌+◌, ◌-◌, nat_lt, if◌then◌else◌, List, [], ◌∷◌, ◌++◌, length, Option, Some, None, Result, Ok, Err}
+use Rattle.std.specs.Prelude.{◌≡◌, ℕ, ◌+◌, ◌-◌, ◌*◌, ◌<◌, true, false, nat_lt, IsSome, IfErr, OnOk, if◌then◌else◌, List, [], ◌∷◌, ◌++◌, length, Option, Some, None, Result, Ok, Err}
 use Rattle.vb_disk.specs.States.{DiskState, DiskCall, Write, Sync}
 use Rattle.vb_head.specs.declared.head.Head.{Head}
 use Rattle.vb_head.specs.declared.head.HeadRead.{HeadRead}
 use Rattle.vb_head.specs.declared.head.State.{State}
 use Rattle.vb_head.specs.declared.head.State.TheVariants.{Closed, Opened, Rebuilding as IsBeingMade}
-use Rattle.vb_head.specs.Heads.{head_page, head_read}
+use Rattle.vb_head.specs.Heads.{count_of, head_page, head_read}
 use Rattle.vb_journal.specs.declared.commit_stage.Turn.TheVariants.{First}
 use Rattle.vb_journal.specs.declared.recover_error.RecoverError.{RecoverError}
 use Rattle.vb_journal.specs.declared.recover_error.RecoverError.TheVariants.{NotAStore, Damaged, Unfit, Rebuilding, DiskFault, Memory}
 use Rattle.vb_journal.specs.declared.recover_stage.RecoverStage.{RecoverStage}
-use Rattle.vb_journal.specs.declared.recover_stage.RecoverStage.TheVariants.{Ask, Settle, ReadFirst, ReadSecond, Mend, SettleMend, ReadImage, Replay, Ready, Refused}
 use Rattle.vb_journal.specs.Calls.{turn_calls}
-use Rattle.vb_journal.specs.Commits.{calls_left}
 use Rattle.vb_journal.specs.Outcomes.{reads_of}
-use Rattle.vb_journal.specs.Plans.{home_calls}
-use Rattle.vb_journal.specs.Recoveries.{are_one_head, choice_of, greater_place, image_refusal, journal_of, journal_place, least_size, settled_head}
+use Rattle.vb_journal.specs.Plans.{calls_from, home_calls}
+use Rattle.vb_journal.specs.Recoveries.{are_one_head, choice_of, greater_place, image_refusal, is_retried, journal_of, journal_place, least_size, settled_head}
 use Rattle.vb_journal.specs.Recovering.{AskSize, Change, ReadPlace, RecoverCall}
+use Rattle.vb_journal.specs.RecoverViews.{RecoverView, AtAsk, AtSettle, AtFirst, AtSecond, AtMend, AtSettleMend, AtImage, AtReplay, AtReady, AtRefused, view_of}
 use Rattle.vb_journal.specs.Shown.{good_of, pages_from}
 
 -- calls that change the disk
@@ -69,20 +68,53 @@ abbrev pub recovery_calls : ℕ → (ℕ → List ℕ) → List RecoverCall
 recovery_calls size reads = AskSize ∷ (if nat_lt size least_size then [] else Change Sync ∷ ReadPlace 0 ∷ ReadPlace 1 ∷ calls_by_choice size reads)
 
 -- the calls that are left at a stage, where the recovery began on this disk
+abbrev pub calls_left_in : RecoverView → DiskState → List RecoverCall
+calls_left_in AtAsk begun = recovery_calls begun.size (reads_of begun)
+calls_left_in (AtSettle places) begun = Change Sync ∷ ReadPlace 0 ∷ ReadPlace 1 ∷ calls_by_choice begun.size (reads_of begun)
+calls_left_in (AtFirst places) begun = ReadPlace 0 ∷ ReadPlace 1 ∷ calls_by_choice begun.size (reads_of begun)
+calls_left_in (AtSecond places read) begun = ReadPlace 1 ∷ calls_by_choice begun.size (reads_of begun)
+calls_left_in (AtMend head other) begun = Change (Write other (head_page head)) ∷ Change Sync ∷ journal_calls_of (reads_of begun) head
+calls_left_in (AtSettleMend head other) begun = Change Sync ∷ journal_calls_of (reads_of begun) head
+calls_left_in (AtImage head count images) begun =
+    image_reads head.nodes (journal_place head + length images) images
+    (pages_from (reads_of begun) (journal_place head + length images) (count - length images))
+    (replay_calls head (journal_of (reads_of begun) head))
+calls_left_in (AtReplay head epoch images stage) begun = changes (calls_from head epoch images stage)
+calls_left_in (AtReady head) begun = []
+calls_left_in (AtRefused why) begun = []
+
+-- so it is at a stage
 abbrev pub recovery_calls_left : RecoverStage → DiskState → List RecoverCall
-recovery_calls_left Ask begun = recovery_calls begun.size (reads_of begun)
-recovery_calls_left (Settle size) begun = Change Sync ∷ ReadPlace 0 ∷ ReadPlace 1 ∷ calls_by_choice begun.size (reads_of begun)
-recovery_calls_left (ReadFirst size) begun = ReadPlace 0 ∷ ReadPlace 1 ∷ calls_by_choice begun.size (reads_of begun)
-recovery_calls_left (ReadSecond first) begun = ReadPlace 1 ∷ calls_by_choice begun.size (reads_of begun)
-recovery_calls_left (Mend mending) begun = Change (Write mending.place (head_page mending.head)) ∷ Change Sync ∷ journal_calls_of (reads_of begun) mending.head
-recovery_calls_left (SettleMend mending) begun = Change Sync ∷ journal_calls_of (reads_of begun) mending.head
-recovery_calls_left (ReadImage journal) begun =
-    image_reads journal.head.nodes (journal_place journal.head + length journal.images) journal.images
-    (pages_from (reads_of begun) (journal_place journal.head + length journal.images) (journal.count - length journal.images))
-    (replay_calls journal.head (journal_of (reads_of begun) journal.head))
-recovery_calls_left (Replay replay) begun = changes (calls_left replay.commit)
-recovery_calls_left (Ready ready) begun = []
-recovery_calls_left (Refused refusal) begun = []
+recovery_calls_left stage begun = calls_left_in (view_of stage) begun
+
+-- the most calls that a head which counts so many images in may ask for: a read and a write of each, and both heads
+abbrev pub most_for : ℕ → ℕ
+most_for count = 2 * count + 5
+
+-- the most calls that may be left at a stage, whatever the disk tells: as many as the greatest journal asks for, until
+-- the head is known that counts
+abbrev pub most_left_in : RecoverView → ℕ
+most_left_in AtAsk = most_for 65536 + 6
+most_left_in (AtSettle places) = most_for 65536 + 5
+most_left_in (AtFirst places) = most_for 65536 + 4
+most_left_in (AtSecond places read) = most_for 65536 + 3
+most_left_in (AtMend head other) = most_for (count_of head.state) + 2
+most_left_in (AtSettleMend head other) = most_for (count_of head.state) + 1
+most_left_in (AtImage head count images) = most_for count - length images
+most_left_in (AtReplay head epoch images stage) = length (calls_from head epoch images stage)
+most_left_in (AtReady head) = 0
+most_left_in (AtRefused why) = 0
+
+-- the most calls that may be left of a recovery
+abbrev pub most_calls_left : RecoverStage → ℕ
+most_calls_left stage = most_left_in (view_of stage)
+
+-- the most calls that may be left fell where a call was due and was made, and stand at a fault and for want of memory.
+-- After a refusal none are left.
+pub record Falls {T : Type 0} (due : Option RecoverCall) (old new : ℕ) (result : Result T RecoverError) : Type 0 where
+  pub fell : IsSome due → OnOk result (new < old)
+  pub stood : IfErr result (λ error. is_retried error ≡ true → new ≡ old)
+  pub ended : IfErr result (λ error. is_retried error ≡ false → new ≡ 0)
 
 -- this call was the first, and the others are left
 abbrev pub IsFirst : Option RecoverCall → List RecoverCall → List RecoverCall → Type 0

@@ -1,16 +1,21 @@
 // A commit: node images go to the journal first, then the heads count them in, then they go home.
-ghost use Rattle.std.specs.Prelude.{◌≡◌, ℕ, List, ◌+◌, ◌*◌, ◌<◌, ◌≤◌, false, length, IfOk, OnErr, OnOk};
-ghost use Rattle.vb_disk.specs.Causes.{HasCause};
-ghost use Rattle.vb_disk.specs.States.{Write};
+ghost use Rattle.std.specs.Prelude.{◌≡◌, ℕ, List, ◌+◌, ◌*◌, ◌<◌, ◌≤◌, ◌∷◌, false, not, length, refl, IfOk, IsErrOf, IsOk, OnErr, OnOk};
+ghost use Rattle.vb_disk.specs.Causes.{HasCause, UsesFailures};
+ghost use Rattle.vb_disk.specs.States.{DiskCall, Sync, Write};
+ghost use Rattle.vb_disk.specs.Within.{CrashesWithin};
 ghost use Rattle.vb_head.specs.Heads.{IsInRange, head_page};
-ghost use Rattle.vb_journal.specs.Calls.{turn_after, turn_call, Makes, MakesFirst};
+ghost use Rattle.vb_journal.specs.Calls.{turn_after, turn_call, MakesFirst};
 ghost use Rattle.vb_journal.specs.Plans.{answer_at, answer_to, closed_head, due_call, is_rested, next_stage, opened_head, position_of, CanCommit, CanFinish, CanGoOn};
+ghost use Rattle.vb_steps.specs.Disks.{disk_view};
+ghost use Rattle.vb_steps.specs.Steps.{CallsOnce};
+ghost use Rattle.vb_steps.specs.Calls.{call_of, is_write, Change, IsWithin};
 
 use crate::{CommitStep, Head, Stage, State, Turn, write_head};
-use std::alloc::Global;
+use std::alloc::{AllocError, Global};
 use vb_block::{Page, get_u32};
 use vb_disk::{Disk, DiskError};
 use vb_list::Items;
+use vb_steps::{Due, Got, Machine, step};
 
 /// Node images: sealed pages whose first four bytes are the slot of the node.
 pub type Images = Items<Page>;
@@ -28,7 +33,8 @@ pub struct Commit {
 }
 
 impl Commit {
-    ghost use Rattle.vb_journal.specs.Commits.{calls_left, epoch_of, head_of, images_of, stage_of};
+    ghost use Rattle.vb_journal.specs.Commits.{calls_left, epoch_of, head_of, images_of, stage_of, GoesToNext};
+    ghost use Rattle.vb_journal.specs.CommitSteps.{CommitSteps};
     ghost use Rattle.vb_journal.specs.Data.{LeavesFrom};
     ghost use Rattle.vb_journal.specs.Progress.{GoesOn, IsAtRest, IsCommitting};
     ghost use Rattle.vb_disk.specs.States.{DiskState};
@@ -92,6 +98,14 @@ impl Commit {
         ensures seen { D.seen disk.new ≡ D.seen disk.old }
         ensures cause { HasCause DiskError.Failed (D.faults disk.old) (D.faults disk.new) result }
 
+        // With no failures left no fault comes, and at most one call is made.
+        ensures left { UsesFailures DiskError.Failed (D.failures_left disk.old) (D.failures_left disk.new) result }
+        ensures called { CallsOnce DiskError.Memory (not (is_rested (stage_of self.old))) (D.calls disk.old) (D.calls disk.new) result }
+        ensures within { CrashesWithin (D.told disk.old) (D.told disk.new) }
+
+        // A sync wants no memory.
+        ensures no_memory { (calls : List DiskCall) → calls_left self.old ≡ Sync ∷ calls → IsErrOf result DiskError.Memory → ⊥ }
+
         // No place of data is written. It stands, or has its newest candidate left where the step made a sync.
         ensures data { LeavesFrom (2 + 2 * (head_of self.old).nodes) (D.told disk.old) (D.told disk.new) result }
 
@@ -100,12 +114,17 @@ impl Commit {
         // ones, but for what was hurt before the crash. So it does wholly where heads and homes were whole.
         ensures crash { (homes journal : ℕ → List ℕ) → GoesOn (head_of self.old) (epoch_of self.old) (images_of self.old) homes journal
             (stage_of self.old) (stage_of self.new) (D.told disk.old) (D.told disk.new) }
+
+        // All of it as one relation, for callers to cite.
+        ensures steps { CommitSteps self.old self.new (disk_view (D.told disk.old) (D.seen disk.old) (D.faults disk.old) (D.failures_left disk.old) (D.calls disk.old))
+            (disk_view (D.told disk.new) (D.seen disk.new) (D.faults disk.new) (D.failures_left disk.new) (D.calls disk.new)) result }
     {
         if self.is_rested() {
             return Ok(CommitStep::Idle);
         }
-        match self.make_call(disk) {
-            Ok(()) => Ok(self.advance()),
+        let answer = self.answer();
+        match step(self.alloc, self, disk) {
+            Ok(()) => Ok(answer),
             Err(error) => Err(error),
         }
     }
@@ -117,103 +136,68 @@ impl Commit {
         &self.images
     }
 
-    // Goes on to the stage after the call that was made, and says what the step answers.
-    fn advance(&mut self) -> CommitStep
-        requires { is_rested self.old.stage ≡ false }
-        ensures answer { result ≡ answer_at (length self.old.images) self.old.stage }
-        ensures stage { stage_of self.new ≡ next_stage (length self.old.images) self.old.stage }
-        ensures head { head_of self.new ≡ head_of self.old }
-        ensures epoch { epoch_of self.new ≡ epoch_of self.old }
-        ensures images { images_of self.new ≡ images_of self.old }
+    /// The head that it writes last: the one that counts the journal out.
+    pub fn closed_head(&self) -> Head
+        ensures head { result ≡ closed_head self.now.head self.now.epoch }
+        ensures range { IsInRange result }
     {
-        let done = self.answer();
-        self.stage = self.next_stage();
-        done
+        Head {
+            sequence: self.head.sequence + 2,
+            epoch: self.epoch,
+            state: State::Closed,
+            ..self.head
+        }
     }
 
-    // Whether no call is left.
-    fn is_rested(&self) -> bool
+    /// Goes on to the stage after the call that was due.
+    pub(crate) fn advance(&mut self)
+        ensures { GoesToNext self.old self.new }
+    {
+        self.stage = self.next_stage();
+    }
+
+    /// Whether no call is left.
+    pub(crate) fn is_rested(&self) -> bool
         ensures { result ≡ is_rested self.now.stage }
     {
         matches!(self.stage, Stage::Rested)
     }
 
-    // Makes the call that is due.
-    fn make_call<D: Disk>(&self, disk: &mut D) -> Result<(), DiskError>
-        requires blocks { self.now.head.blocks ≤ D.seen disk.old }
-        requires due { is_rested self.now.stage ≡ false }
-        ensures makes { Makes (due_call self.now.head self.now.epoch self.now.images self.now.stage) (D.told disk.old) (D.told disk.new) result }
-        ensures seen { D.seen disk.new ≡ D.seen disk.old }
-        ensures cause { HasCause DiskError.Failed (D.faults disk.old) (D.faults disk.new) result }
-    {
-        match self.stage {
-            Stage::Journal { next } => self.journal_call(disk, next),
-            Stage::Opening(turn) => self.turn_call(disk, turn, &self.opened()),
-            Stage::Homes { next } => self.home_call(disk, next),
-            Stage::Closing(turn) => self.turn_call(disk, turn, &self.closed()),
-            Stage::Rested => unreachable!(),
-        }
-    }
-
-    // Writes an image into the journal, or makes the sync after them.
-    fn journal_call<D: Disk>(&self, disk: &mut D, next: u32) -> Result<(), DiskError>
-        requires { self.now.head.blocks ≤ D.seen disk.old }
-        ensures makes { Makes (due_call self.now.head self.now.epoch self.now.images (Stage.Journal next)) (D.told disk.old) (D.told disk.new) result }
-        ensures seen { D.seen disk.new ≡ D.seen disk.old }
-        ensures cause { HasCause DiskError.Failed (D.faults disk.old) (D.faults disk.new) result }
+    // The call for an image of the journal, or the sync after them.
+    fn journal_due(&self, next: u32) -> Due<'_>
+        requires { next ≤ length self.now.images }
+        ensures due { call_of result ≡ Change (due_call self.now.head self.now.epoch self.now.images (Stage.Journal next)) }
+        ensures within { IsWithin (Change (due_call self.now.head self.now.epoch self.now.images (Stage.Journal next))) self.now.head.blocks }
     {
         if (next as usize) < self.images.len() {
-            let image = self.images.get(next as usize);
-            disk.write(2 + self.head.nodes + next, image)
+            let page = self.images.get(next as usize);
+            Due::Write {
+                place: 2 + self.head.nodes + next,
+                page,
+            }
         } else {
-            disk.sync()
+            Due::Sync
         }
     }
 
-    // Writes an image to its home, or makes the sync after them.
-    fn home_call<D: Disk>(&self, disk: &mut D, next: u32) -> Result<(), DiskError>
-        requires { self.now.head.blocks ≤ D.seen disk.old }
-        ensures makes { Makes (due_call self.now.head self.now.epoch self.now.images (Stage.Homes next)) (D.told disk.old) (D.told disk.new) result }
-        ensures seen { D.seen disk.new ≡ D.seen disk.old }
-        ensures cause { HasCause DiskError.Failed (D.faults disk.old) (D.faults disk.new) result }
+    // The call for an image at its home, or the sync after them.
+    fn home_due(&self, next: u32) -> Due<'_>
+        ensures due { call_of result ≡ Change (due_call self.now.head self.now.epoch self.now.images (Stage.Homes next)) }
+        ensures within { IsWithin (Change (due_call self.now.head self.now.epoch self.now.images (Stage.Homes next))) self.now.head.blocks }
     {
         if (next as usize) < self.images.len() {
-            let image = self.images.get(next as usize);
-            disk.write(2 + get_u32(image, 0), image)
+            let page = self.images.get(next as usize);
+            Due::Write {
+                place: 2 + get_u32(page, 0),
+                page,
+            }
         } else {
-            disk.sync()
+            Due::Sync
         }
-    }
-
-    // Writes a copy of this head, or makes the sync after it.
-    fn turn_call<D: Disk>(&self, disk: &mut D, turn: Turn, head: &Head) -> Result<(), DiskError>
-        requires blocks { 2 ≤ D.seen disk.old }
-        requires range { IsInRange head.now }
-        ensures makes { Makes (turn_call (head_page head.now) turn) (D.told disk.old) (D.told disk.new) result }
-        ensures seen { D.seen disk.new ≡ D.seen disk.old }
-        ensures cause { HasCause DiskError.Failed (D.faults disk.old) (D.faults disk.new) result }
-    {
-        match turn {
-            Turn::First => self.head_call(disk, 0, head),
-            Turn::Second => self.head_call(disk, 1, head),
-            Turn::FirstSync | Turn::SecondSync => disk.sync(),
-        }
-    }
-
-    // Writes a head.
-    fn head_call<D: Disk>(&self, disk: &mut D, place: u32, head: &Head) -> Result<(), DiskError>
-        requires blocks { place < D.seen disk.old }
-        requires range { IsInRange head.now }
-        ensures makes { Makes (Write place (head_page head.now)) (D.told disk.old) (D.told disk.new) result }
-        ensures seen { D.seen disk.new ≡ D.seen disk.old }
-        ensures cause { HasCause DiskError.Failed (D.faults disk.old) (D.faults disk.new) result }
-    {
-        let page = write_head(self.alloc, head)?;
-        disk.write(place, &page)
     }
 
     // The head that counts the journal in.
-    fn opened(&self) -> Head
+    fn opened_head(&self) -> Head
         ensures head { result ≡ opened_head self.now.head self.now.epoch self.now.images }
         ensures range { IsInRange result }
     {
@@ -227,22 +211,8 @@ impl Commit {
         }
     }
 
-    // The head that counts the journal out.
-    fn closed(&self) -> Head
-        ensures head { result ≡ closed_head self.now.head self.now.epoch }
-        ensures range { IsInRange result }
-    {
-        Head {
-            sequence: self.head.sequence + 2,
-            epoch: self.epoch,
-            state: State::Closed,
-            ..self.head
-        }
-    }
-
-    // What a step answers that makes the call that is due.
+    // What a step answers that makes the call that is due, or finds none.
     fn answer(&self) -> CommitStep
-        requires { is_rested self.now.stage ≡ false }
         ensures { result ≡ answer_at (length self.now.images) self.now.stage }
     {
         let left = self.images.len();
@@ -253,6 +223,7 @@ impl Commit {
             Stage::Closing(Turn::First | Turn::Second) => CommitStep::Wrote,
             Stage::Opening(Turn::SecondSync) => CommitStep::Committed,
             Stage::Closing(Turn::SecondSync) => CommitStep::Rested,
+            Stage::Rested => CommitStep::Idle,
             _ => CommitStep::Synced,
         }
     }
@@ -287,6 +258,58 @@ impl Commit {
             Stage::Rested => Stage::Rested,
         }
     }
+}
+
+impl Machine for Commit {
+    ghost use Rattle.vb_journal.specs.Commits.{commit_call, places_of, GoesToNext};
+
+    ghost call = { commit_call };
+
+    ghost blocks = { places_of };
+
+    ghost comes_after = { λ old _ new. GoesToNext old new };
+
+    ghost is_same = { λ commit new. new ≡ commit };
+
+    ghost stands = { λ _. refl };
+
+    fn due(&self, alloc: Global) -> Result<Due<'_>, AllocError> {
+        match self.stage {
+            Stage::Journal { next } => Ok(self.journal_due(next)),
+            Stage::Opening(turn) => turn_due(alloc, turn, &self.opened_head()),
+            Stage::Homes { next } => Ok(self.home_due(next)),
+            Stage::Closing(turn) => turn_due(alloc, turn, &self.closed_head()),
+            Stage::Rested => Ok(Due::Idle),
+        }
+    }
+
+    fn after(&mut self, _: Global, _: Got) -> Result<(), AllocError> {
+        self.advance();
+        Ok(())
+    }
+}
+
+// The call for the two copies of a head, or for the sync after each.
+fn turn_due<'a>(alloc: Global, turn: Turn, head: &Head) -> Result<Due<'a>, AllocError>
+    requires { IsInRange head.now }
+    ensures due { IfOk result (λ due. call_of due ≡ Change (turn_call (head_page head.now) turn)) }
+    ensures within { IsWithin (Change (turn_call (head_page head.now) turn)) 2 }
+    ensures sure { is_write (Change (turn_call (head_page head.now) turn)) ≡ false → IsOk result }
+{
+    match turn {
+        Turn::First => head_due(alloc, 0, head),
+        Turn::Second => head_due(alloc, 1, head),
+        Turn::FirstSync | Turn::SecondSync => Ok(Due::Sync),
+    }
+}
+
+/// The call that writes a head.
+pub(crate) fn head_due<'a>(alloc: Global, place: u32, head: &Head) -> Result<Due<'a>, AllocError>
+    requires { IsInRange head.now }
+    ensures due { IfOk result (λ due. call_of due ≡ Change (Write place (head_page head.now))) }
+{
+    let page = write_head(alloc, head)?;
+    Ok(Due::WriteMade { place, page })
 }
 
 // The turn after this one, if there is one.

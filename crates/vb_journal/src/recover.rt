@@ -1,11 +1,14 @@
 // A recovery: which head of a store counts, and what its journal holds, one call of the disk at a time.
-ghost use Rattle.std.specs.Prelude.{true, ◌≡◌, ◌≢◌, ◌≤◌, ◌+◌, ℕ, List, length, Some, None, IfOk, IfErr, IfSome, OnOk, OnErr, IsSome, vec_len};
+ghost use Rattle.std.specs.Prelude.{true, ◌≡◌, ◌≢◌, ◌≤◌, ◌+◌, ℕ, List, length, is_some, Some, None, IfOk, IfErr, IfSome, OnOk, OnErr, IsSome, vec_len};
 ghost use Rattle.std.specs.Option.{option_copied};
 ghost use Rattle.vb_block.specs.Pages.{IsSealed};
-ghost use Rattle.vb_disk.specs.Causes.{HasCause};
+ghost use Rattle.vb_disk.specs.Causes.{HasCause, UsesFailures};
 ghost use Rattle.vb_disk.specs.States.{DiskState};
+ghost use Rattle.vb_disk.specs.Within.{CrashesWithin};
 ghost use Rattle.vb_head.specs.Heads.{IsHead};
 ghost use Rattle.vb_journal.specs.Recovering.{most_slots};
+ghost use Rattle.vb_steps.specs.Disks.{disk_view};
+ghost use Rattle.vb_steps.specs.Steps.{CallsOnce};
 
 use crate::noting::{make_room, note_slot};
 use crate::recover_stage::RecoverStage;
@@ -41,8 +44,9 @@ impl Recover {
     ghost use Rattle.vb_journal.specs.Recovering.{AskSize, blocks_of, due_of, images_by, nodes_of, IsRecovering, HasEnded, MakesCall, RecoversOn, SeenStays, StandsAfter, TakesImage};
     ghost use Rattle.vb_journal.specs.Interruptions.{is_synced};
     ghost use Rattle.vb_journal.specs.Notes.{slots_noted, slots_with, HasNoted, IsNoted};
+    ghost use Rattle.vb_journal.specs.RecoverSteps.{RecoverSteps};
     ghost use Rattle.vb_journal.specs.Outcomes.{reads_of};
-    ghost use Rattle.vb_journal.specs.RecoveryCalls.{recovery_calls, recovery_calls_left, Leaves};
+    ghost use Rattle.vb_journal.specs.RecoveryCalls.{most_calls_left, recovery_calls, recovery_calls_left, Falls, Leaves};
     ghost use Rattle.vb_journal.specs.Recovers.{lent_image, ready_head, recovery_stage, AnswersRecovery, IsAheadOf, Lends};
 
     /// A recovery that begins.
@@ -95,8 +99,20 @@ impl Recover {
         // Once the first sync was made, it stays made.
         ensures order { is_synced (recovery_stage self.old) ≡ true → is_synced (recovery_stage self.new) ≡ true }
 
+        // With no failures left no fault comes, and at most one call is made.
+        ensures left { UsesFailures RecoverError.DiskFault (D.failures_left disk.old) (D.failures_left disk.new) result }
+        ensures called { CallsOnce RecoverError.Memory (is_some (due_of (recovery_stage self.old))) (D.calls disk.old) (D.calls disk.new) result }
+        ensures within { CrashesWithin (D.told disk.old) (D.told disk.new) }
+
+        // So steps come to an end, over disks that tell nothing too.
+        ensures falls { Falls (due_of (recovery_stage self.old)) (most_calls_left (recovery_stage self.old)) (most_calls_left (recovery_stage self.new)) result }
+
         // From the first sync on each crash within the step leaves what recovers to the same.
         ensures crash { RecoversOn (recovery_stage self.old) (recovery_stage self.new) (D.told disk.old) (D.told disk.new) }
+
+        // All of it as one relation, for callers to cite.
+        ensures steps { RecoverSteps self.old self.new (disk_view (D.told disk.old) (D.seen disk.old) (D.faults disk.old) (D.failures_left disk.old) (D.calls disk.old))
+            (disk_view (D.told disk.new) (D.seen disk.new) (D.faults disk.new) (D.failures_left disk.new) (D.calls disk.new)) result }
     {
         let reads_image = self.stage.reads_image();
         if make_room(&mut self.slots, reads_image).is_err() {

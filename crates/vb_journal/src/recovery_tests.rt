@@ -129,8 +129,8 @@ fn each_image_is_lent_and_its_slot_noted(rt: HostRuntime) -> Result<(), Fail> {
 fn a_disk_without_a_store_is_refused(rt: HostRuntime) -> Result<(), Fail> {
     let alloc = rt.alloc();
     let none = Err(RecoverError::NotAStore { place: 0 });
-    assert_eq!(rt; recovered(alloc, &mut MemoryDisk::new(alloc, 37)), none);
-    assert_eq!(rt; recovered(alloc, &mut MemoryDisk::new(alloc, 38)), none);
+    assert_eq!(rt; recovered(alloc, &mut MemoryDisk::new(alloc, 37)?), none);
+    assert_eq!(rt; recovered(alloc, &mut MemoryDisk::new(alloc, 38)?), none);
     let mut other = small_disk(alloc)?;
     other.resize(39)?;
     let unfit = RecoverError::Unfit {

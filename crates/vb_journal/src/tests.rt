@@ -50,7 +50,7 @@ pub(crate) fn small_head() -> Head
 
 // The disk of that store at rest, with blank homes.
 pub(crate) fn small_disk(alloc: Global) -> Result<MemoryDisk, DiskError> {
-    let mut disk = MemoryDisk::new(alloc, 38);
+    let mut disk = MemoryDisk::new(alloc, 38)?;
     let page = write_head(alloc, &small_head())?;
     disk.write(0, &page)?;
     disk.write(1, &page)?;

@@ -1,86 +1,59 @@
-use Rattle.std.proofs.Common.{sym, subst}
-use Rattle.vb_journal.specs.declared.recover_stage.RecoverStage.{RecoverStage}
-use Rattle.vb_journal.specs.declared.recover_stage.RecoverStage.TheVariants.{Ready}
-use Rattle.vb_journal.specs.Recovering.{IsRecovering}
-use Rattle.vb_journal.proofs.StepsOfRecoveries.{ends, stays}
-use Rattle.vb_journal.specs.Recovering.{due_of}
-use Rattle.vb_journal.specs.RecoveryCalls.{Leaves, recovery_calls_left}
-use Rattle.vb_journal.specs.Notes.{KeepsNotes}
+use Rattle.std.proofs.Common.{◌∙◌, ◌≤◌, sym, ap, subst}
+use Rattle.vb_journal.specs.Interruptions.{is_synced_in}
+use Rattle.vb_journal.specs.Recovering.{due_of, most_slots_in}
+use Rattle.vb_journal.specs.RecoveryCalls.{most_left_in}
+use Rattle.vb_journal.specs.RecoverViews.{RecoverView, view_of}
+use Rattle.vb_journal.proofs.RecoverAnswers.{leaves-made, makes-gone, makes-went, notes-made, takes-made}
+use Rattle.vb_journal.proofs.RecoverStages.{called-made, falls-lost, falls-made, slots-next, synced-next}
+use Rattle.vb_journal.proofs.RecoverSteps.{failed-known, went-known}
 use Rattle.vb_journal.proofs.recovering.step_from.Goals as goal
 
-pub returns-in-Ready-clause-known : goal.returns-in-Ready-clause-known
-returns-in-Ready-clause-known g c begun d told is =
-    let Q : RecoverStage → Type 0 = λ s. IsRecovering s begun d in
-    stays begun d c.args.stage (Ready c.in-Ready.ready) (g.D.Disk.told c.args.disk.now) told is (subst Q c.in-Ready.is is)
+pub returns-in-Ok-clause-makes : goal.returns-in-Ok-clause-makes
+returns-in-Ok-clause-makes g c =
+    makes-went c.args.stage (g.D.Disk.told c.args.disk.now) (g.D.Disk.told c.step.new.disk) c.in-Ok.field-0 c.answer-answer.result c.answer-answer.ensures.ends c.in-Ok.ensures.steps
 
-pub returns-in-Refused-clause-known : goal.returns-in-Refused-clause-known
-returns-in-Refused-clause-known g c begun d told is =
-    let Q : RecoverStage → Type 0 = λ s. IsRecovering s begun d in
-    ends begun d c.args.stage c.refused.result.0 c.in-Refused.refusal (g.D.Disk.told c.args.disk.now) c.refused.ensures.stage told is (subst Q c.in-Refused.is is)
+pub returns-in-Err-clause-makes : goal.returns-in-Err-clause-makes
+returns-in-Err-clause-makes g c =
+    makes-gone c.args.stage (g.D.Disk.told c.args.disk.now) (g.D.Disk.told c.step.new.disk) c.in-Err.error c.from.result c.from.ensures c.in-Err.ensures.steps
 
-pub returns-in-Ask-clause-list : goal.returns-in-Ask-clause-list
-returns-in-Ask-clause-list g c begun d told is =
-    let Q : RecoverStage → Type 0 = λ s. IsRecovering s begun d in
-    let R : RecoverStage → Type 0 = λ s. Leaves (due_of s) (recovery_calls_left s begun) (recovery_calls_left c.ask.result.0 begun) c.ask.result.1 in
-    subst R (sym c.in-Ask.is) (c.ask.ensures.list begun d told (subst Q c.in-Ask.is is))
+pub returns-in-Ok-clause-known : goal.returns-in-Ok-clause-known
+returns-in-Ok-clause-known g c begun d told is =
+    went-known begun d c.args.stage c.step.new.machine (g.D.Disk.told c.args.disk.now) (g.D.Disk.told c.step.new.disk) c.in-Ok.field-0 _ (g.met.D.Disk.valid c.args.disk.now d told) told c.in-Ok.ensures.steps is
 
-pub returns-in-Settle-clause-list : goal.returns-in-Settle-clause-list
-returns-in-Settle-clause-list g c begun d told is =
-    let Q : RecoverStage → Type 0 = λ s. IsRecovering s begun d in
-    let R : RecoverStage → Type 0 = λ s. Leaves (due_of s) (recovery_calls_left s begun) (recovery_calls_left c.settle.result.0 begun) c.settle.result.1 in
-    subst R (sym c.in-Settle.is) (c.settle.ensures.list begun d told (subst Q c.in-Settle.is is))
+pub returns-in-Err-clause-known : goal.returns-in-Err-clause-known
+returns-in-Err-clause-known g c begun d told is =
+    failed-known begun d c.args.stage c.step.new.machine (g.D.Disk.told c.args.disk.now) (g.D.Disk.told c.step.new.disk) c.in-Err.error _ told c.in-Err.ensures.steps is
 
-pub returns-in-ReadFirst-clause-list : goal.returns-in-ReadFirst-clause-list
-returns-in-ReadFirst-clause-list g c begun d told is =
-    let Q : RecoverStage → Type 0 = λ s. IsRecovering s begun d in
-    let R : RecoverStage → Type 0 = λ s. Leaves (due_of s) (recovery_calls_left s begun) (recovery_calls_left c.read_first.result.0 begun) c.read_first.result.1 in
-    subst R (sym c.in-ReadFirst.is) (c.read_first.ensures.list begun d told (subst Q c.in-ReadFirst.is is))
+pub returns-in-Ok-clause-list : goal.returns-in-Ok-clause-list
+returns-in-Ok-clause-list g c begun d told is =
+    leaves-made c.args.stage c.step.new.machine begun d (g.D.Disk.told c.args.disk.now) (g.D.Disk.told c.step.new.disk) c.in-Ok.field-0 _ c.answer-answer.result c.answer-answer.ensures.ends told c.in-Ok.ensures.steps is
 
-pub returns-in-ReadSecond-clause-list : goal.returns-in-ReadSecond-clause-list
-returns-in-ReadSecond-clause-list g c begun d told is =
-    let Q : RecoverStage → Type 0 = λ s. IsRecovering s begun d in
-    let R : RecoverStage → Type 0 = λ s. Leaves (due_of s) (recovery_calls_left s begun) (recovery_calls_left c.read_second.result.0 begun) c.read_second.result.1 in
-    subst R (sym c.in-ReadSecond.is) (c.read_second.ensures.list begun d told (subst Q c.in-ReadSecond.is is))
+pub returns-in-Ok-clause-image : goal.returns-in-Ok-clause-image
+returns-in-Ok-clause-image g c =
+    takes-made c.args.stage c.step.new.machine (g.D.Disk.told c.args.disk.now) (g.D.Disk.told c.step.new.disk) c.in-Ok.field-0 _ c.answer-answer.result c.answer-answer.ensures.answer c.in-Ok.ensures.steps
 
-pub returns-in-Ask-clause-notes : goal.returns-in-Ask-clause-notes
-returns-in-Ask-clause-notes g c begun d told is =
-    let R : RecoverStage → Type 0 = λ s. KeepsNotes s c.ask.result.0 c.ask.result.1 begun in
-    subst R (sym c.in-Ask.is) (c.ask.ensures.notes begun)
+pub returns-in-Ok-clause-notes : goal.returns-in-Ok-clause-notes
+returns-in-Ok-clause-notes g c begun d told is =
+    notes-made c.args.stage c.step.new.machine begun d (g.D.Disk.told c.args.disk.now) (g.D.Disk.told c.step.new.disk) c.in-Ok.field-0 _ c.answer-answer.result c.answer-answer.ensures.answer told c.in-Ok.ensures.steps is
 
-pub returns-in-Settle-clause-notes : goal.returns-in-Settle-clause-notes
-returns-in-Settle-clause-notes g c begun d told is =
-    let R : RecoverStage → Type 0 = λ s. KeepsNotes s c.settle.result.0 c.settle.result.1 begun in
-    subst R (sym c.in-Settle.is) (c.settle.ensures.notes begun)
+pub returns-in-Ok-clause-few : goal.returns-in-Ok-clause-few
+returns-in-Ok-clause-few g c =
+    let went = c.in-Ok.ensures.steps.went in
+    subst (λ (v : RecoverView). most_slots_in (view_of c.args.stage) ≤ most_slots_in v) (sym went.goes.view_is) (slots-next c.args.stage went.got)
 
-pub returns-in-ReadFirst-clause-notes : goal.returns-in-ReadFirst-clause-notes
-returns-in-ReadFirst-clause-notes g c begun d told is =
-    let R : RecoverStage → Type 0 = λ s. KeepsNotes s c.read_first.result.0 c.read_first.result.1 begun in
-    subst R (sym c.in-ReadFirst.is) (c.read_first.ensures.notes begun)
+pub returns-in-Ok-clause-order : goal.returns-in-Ok-clause-order
+returns-in-Ok-clause-order g c was =
+    let went = c.in-Ok.ensures.steps.went in
+    ap is_synced_in went.goes.view_is ∙ synced-next c.args.stage went.got was
 
-pub returns-in-ReadSecond-clause-notes : goal.returns-in-ReadSecond-clause-notes
-returns-in-ReadSecond-clause-notes g c begun d told is =
-    let Q : RecoverStage → Type 0 = λ s. IsRecovering s begun d in
-    let R : RecoverStage → Type 0 = λ s. KeepsNotes s c.read_second.result.0 c.read_second.result.1 begun in
-    subst R (sym c.in-ReadSecond.is) (c.read_second.ensures.notes begun d told (subst Q c.in-ReadSecond.is is))
+pub returns-in-Ok-clause-falls : goal.returns-in-Ok-clause-falls
+returns-in-Ok-clause-falls g c =
+    let went = c.in-Ok.ensures.steps.went in
+    falls-made c.args.stage went.got (view_of c.step.new.machine) c.answer-answer.result went.goes.view_is went.goes.reads c.answer-answer.ensures.answer c.answer-answer.ensures.ends
 
-pub returns-in-Mend-clause-notes : goal.returns-in-Mend-clause-notes
-returns-in-Mend-clause-notes g c begun d told is =
-    let R : RecoverStage → Type 0 = λ s. KeepsNotes s c.mend.result.0 c.mend.result.1 begun in
-    subst R (sym c.in-Mend.is) (c.mend.ensures.notes begun)
+pub returns-in-Err-clause-falls : goal.returns-in-Err-clause-falls
+returns-in-Err-clause-falls g c =
+    falls-lost (due_of c.args.stage) _ _ c.in-Err.error c.from.result c.from.ensures (ap most_left_in c.in-Err.ensures.steps.stays)
 
-pub returns-in-SettleMend-clause-notes : goal.returns-in-SettleMend-clause-notes
-returns-in-SettleMend-clause-notes g c begun d told is =
-    let Q : RecoverStage → Type 0 = λ s. IsRecovering s begun d in
-    let R : RecoverStage → Type 0 = λ s. KeepsNotes s c.settle_mend.result.0 c.settle_mend.result.1 begun in
-    subst R (sym c.in-SettleMend.is) (c.settle_mend.ensures.notes begun d told (subst Q c.in-SettleMend.is is))
-
-pub returns-in-ReadImage-clause-notes : goal.returns-in-ReadImage-clause-notes
-returns-in-ReadImage-clause-notes g c begun d told is =
-    let R : RecoverStage → Type 0 = λ s. KeepsNotes s c.read_image.result.0 c.read_image.result.1 begun in
-    subst R (sym c.in-ReadImage.is) (c.read_image.ensures.notes begun)
-
-pub returns-in-Replay-clause-notes : goal.returns-in-Replay-clause-notes
-returns-in-Replay-clause-notes g c begun d told is =
-    let Q : RecoverStage → Type 0 = λ s. IsRecovering s begun d in
-    let R : RecoverStage → Type 0 = λ s. KeepsNotes s c.go_on.result.0 c.go_on.result.1 begun in
-    subst R (sym c.in-Replay.is) (c.go_on.ensures.notes begun d told (subst Q c.in-Replay.is is))
+pub returns-in-Ok-clause-called : goal.returns-in-Ok-clause-called
+returns-in-Ok-clause-called g c = called-made c.args.stage (g.D.Disk.calls c.args.disk.now) (g.D.Disk.calls c.step.new.disk) c.in-Ok.field-0 c.answer-answer.result c.answer-answer.ensures.ends c.in-Ok.ensures.called

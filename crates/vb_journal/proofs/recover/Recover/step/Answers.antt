@@ -1,4 +1,4 @@
-use Rattle.std.proofs.Common.{◌≡◌, ◌∙◌, ℕ, Bool, cond, false, List, Option, None, sym, ap, subst}
+use Rattle.std.proofs.Common.{rules, ◌≡◌, ◌∙◌, ℕ, Bool, cond, false, List, Option, None, sym, ap, subst}
 use Rattle.vb_journal.specs.declared.recover.Ahead.{Ahead}
 use Rattle.vb_journal.specs.declared.recover_stage.RecoverStage.{RecoverStage}
 use Rattle.vb_journal.specs.Notes.{HasNotedAt, slots_with}
@@ -7,6 +7,7 @@ use Rattle.vb_journal.specs.Recovers.{AnswersRecovery, IsAheadOf, Lends, is_read
 use Rattle.vb_journal.proofs.Answering.{ahead-of, ahead_ok, answers-ok, lends-taken, makes-ok, on-ok}
 use Rattle.vb_journal.proofs.NotesKept.{noted-err, noted-ok}
 use Rattle.vb_journal.proofs.StepsOfRecoveries.{stays}
+use Rattle.vb_steps.proofs.StepsMade.{none-within}
 use Rattle.vb_journal.proofs.recover.Recover.step.Goals as goal
 
 pub returns-in-Ok-clause-calls : goal.returns-in-Ok-clause-calls
@@ -57,3 +58,81 @@ returns-in-Err-clause-noted g c begun d told is has =
     let N : RecoverStage → Type 0 = λ s. HasNotedAt s c.args.self.now.place c.args.self.now.slots.items begun in
     noted-err begun c.replace-stage.result c.step_from-stage.result.0 c.step_from-stage.result.1 c.in-Err.error c.args.self.now.place c.place_after-self.result c.args.self.now.slots.items c.make_room.new.slots.items c.in-Err.is
     (c.step_from-stage.ensures.notes begun d told (subst Q before is)) (subst N before has) c.place_after-self.ensures c.make_room.ensures.items
+
+pub returns-then-is_err-clause-within : goal.returns-then-is_err-clause-within
+returns-then-is_err-clause-within g c = none-within (g.D.Disk.told c.args.disk.now) (λ d told. g.met.D.Disk.valid c.args.disk.now d told)
+
+pub returns-then-is_err-clause-steps : goal.returns-then-is_err-clause-steps
+returns-then-is_err-clause-steps g c = record {
+  calls = search rules;
+  ahead = search rules;
+  error = search rules;
+  again = search rules;
+  cause = search rules;
+  differ = search rules;
+  seen = search rules;
+  blocks = search rules;
+  image = search rules;
+  no_image = search rules;
+  images = search rules;
+  answer = search rules;
+  list = search rules;
+  noted = search rules;
+  slots = search rules;
+  order = search rules;
+  left = search rules;
+  called = search rules;
+  within = returns-then-is_err-clause-within g c;
+  falls = search rules;
+  crash = returns-then-is_err-clause-crash g c;
+}
+
+pub returns-in-Ok-clause-steps : goal.returns-in-Ok-clause-steps
+returns-in-Ok-clause-steps g c = record {
+  calls = returns-in-Ok-clause-calls g c;
+  ahead = returns-in-Ok-clause-ahead g c;
+  error = search rules;
+  again = search rules;
+  cause = search rules;
+  differ = search rules;
+  seen = search rules;
+  blocks = search rules;
+  image = returns-in-Ok-clause-image g c;
+  no_image = search rules;
+  images = search rules;
+  answer = returns-in-Ok-clause-answer g c;
+  list = search rules;
+  noted = returns-in-Ok-clause-noted g c;
+  slots = search rules;
+  order = search rules;
+  left = search rules;
+  called = search rules;
+  within = search rules;
+  falls = search rules;
+  crash = search rules;
+}
+
+pub returns-in-Err-clause-steps : goal.returns-in-Err-clause-steps
+returns-in-Err-clause-steps g c = record {
+  calls = search rules;
+  ahead = search rules;
+  error = search rules;
+  again = search rules;
+  cause = search rules;
+  differ = search rules;
+  seen = search rules;
+  blocks = search rules;
+  image = search rules;
+  no_image = search rules;
+  images = search rules;
+  answer = search rules;
+  list = search rules;
+  noted = returns-in-Err-clause-noted g c;
+  slots = search rules;
+  order = search rules;
+  left = search rules;
+  called = search rules;
+  within = search rules;
+  falls = search rules;
+  crash = search rules;
+}

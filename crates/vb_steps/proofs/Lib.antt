@@ -1,0 +1,2 @@
+pub mod RunsKept
+pub mod StepsMade
