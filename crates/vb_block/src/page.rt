@@ -36,7 +36,8 @@ impl Page {
 
     /// An equal page.
     pub fn copy(&self, alloc: Global) -> Result<Page, AllocError>
-        ensures { IfOk result (λ page. page ≡ self.now) }
+        ensures same { IfOk result (λ page. page ≡ self.now) }
+        ensures page { IfOk result IsPage }
     {
         Ok(Page {
             bytes: Box::new(alloc, *self.bytes)?,

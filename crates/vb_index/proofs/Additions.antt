@@ -22,7 +22,7 @@ new_fits : (slot : ℕ) (kind : Kind) (folder : ℕ) (name : List ℕ) → IsHel
 new_fits slot Folder folder name = record { at_slot = refl; either = refl; folder_empty = λ h. refl; short = omega arith; each_page = refl }
 new_fits slot File folder name = record { at_slot = refl; either = refl; folder_empty = λ h. refl; short = omega arith; each_page = refl }
 
-new_shape : (slot : ℕ) (kind : Kind) (folder : ℕ) (name : List ℕ) (path : List (List ℕ)) → shape_of_entry (record { path = path; kind = kind; bytes = [] }) ≡ shape_of (new_held slot kind folder name)
+pub new_shape : (slot : ℕ) (kind : Kind) (folder : ℕ) (name : List ℕ) (path : List (List ℕ)) → shape_of_entry (record { path = path; kind = kind; bytes = [] }) ≡ shape_of (new_held slot kind folder name)
 new_shape slot Folder folder name path = refl
 new_shape slot File folder name path = refl
 

@@ -2,6 +2,7 @@ pub mod Additions
 pub mod Ascending
 pub mod Beginnings
 pub mod ChildLaws
+pub mod Contents
 pub mod Copying
 pub mod Depths
 pub mod Growth
@@ -13,10 +14,12 @@ pub mod MovedTrees
 pub mod MovedWalks
 pub mod Named
 pub mod Newness
+pub mod OneTree
 pub mod PathOrder
 pub mod Places
 pub mod Positions
 pub mod Renamed
+pub mod RenamedContents
 pub mod Resizing
 pub mod Shapes
 pub mod Shrinking

@@ -103,20 +103,25 @@ found-none source target q (x ∷ xs) all e =
     let both : None ≡ Some x.path = sym e ∙ ap (path_before source target) is ∙ path-back source target x.path all.0 in cc) in
     ap (λ v. cond v (Some (record x { path = path_after source target x.path })) (entry_at q (moved source target xs))) other ∙ found-none source target q xs all.1 e
 
--- what is found is of the shape of what stood before
-found-some : (source target q p : List (List ℕ)) (es : List TreeEntry) → AllOutside target es → path_before source target q ≡ Some p → option_map shape_of_entry (entry_at q (moved source target es)) ≡ option_map shape_of_entry (entry_at p es)
-found-some source target q p [] all e = refl
-found-some source target q p (x ∷ xs) all e =
-    let rest = found-some source target q p xs all.1 e in
+-- what doesn't depend on an entry's path
+abbrev pub IgnoresPath : {Y : Type 0} → (TreeEntry → Y) → Type 0
+IgnoresPath f = (e : TreeEntry) (path : List (List ℕ)) → f (record e { path = path }) ≡ f e
+
+-- what is found is as what stood before, but for its path
+found-some : {Y : Type 0} (f : TreeEntry → Y) → IgnoresPath f → (source target q p : List (List ℕ)) (es : List TreeEntry) → AllOutside target es → path_before source target q ≡ Some p → option_map f (entry_at q (moved source target es)) ≡ option_map f (entry_at p es)
+found-some f ignores source target q p [] all e = refl
+found-some f ignores source target q p (x ∷ xs) all e =
+    let rest = found-some f ignores source target q p xs all.1 e in
     elim (cases_Bool (same_path p x.path)) [
       | inl h ↦ (let is : path_after source target x.path ≡ q = ap (path_after source target) (sym ((same_path-Decides p x.path).0 h)) ∙ path-forth source target q p e in
-          ap (λ v. option_map shape_of_entry (cond v (Some (record x { path = path_after source target x.path })) (entry_at q (moved source target xs)))) ((same_path-Decides q (path_after source target x.path)).1 (sym is))
-          ∙ sym (ap (λ v. option_map shape_of_entry (cond v (Some x) (entry_at p xs))) h))
+          ap (λ v. option_map f (cond v (Some (record x { path = path_after source target x.path })) (entry_at q (moved source target xs)))) ((same_path-Decides q (path_after source target x.path)).1 (sym is))
+          ∙ ap (λ y. Some y) (ignores x (path_after source target x.path))
+          ∙ sym (ap (λ v. option_map f (cond v (Some x) (entry_at p xs))) h))
       | inr h ↦ (let other : same_path q (path_after source target x.path) ≡ false = not_same q (path_after source target x.path) (λ is.
           false≢true (sym h ∙ (same_path-Decides p x.path).1 (some_same p x.path (sym e ∙ ap (path_before source target) is ∙ path-back source target x.path all.0)))) in
-          ap (λ v. option_map shape_of_entry (cond v (Some (record x { path = path_after source target x.path })) (entry_at q (moved source target xs)))) other
+          ap (λ v. option_map f (cond v (Some (record x { path = path_after source target x.path })) (entry_at q (moved source target xs)))) other
           ∙ rest
-          ∙ sym (ap (λ v. option_map shape_of_entry (cond v (Some x) (entry_at p xs))) h))
+          ∙ sym (ap (λ v. option_map f (cond v (Some x) (entry_at p xs))) h))
     ]
 
 -- ---- the moved entries in path order
@@ -129,7 +134,7 @@ less_greater : Less ≡ Greater → ⊥
 less_greater e = cc
 
 -- what comes after a path isn't at it
-entry_at-after : (p : List (List ℕ)) (es : List TreeEntry) → AllAfter p es → entry_at p es ≡ None
+pub entry_at-after : (p : List (List ℕ)) (es : List TreeEntry) → AllAfter p es → entry_at p es ≡ None
 entry_at-after p [] all = refl
 entry_at-after p (e ∷ es) all =
     let other : same_path p e.path ≡ false = not_same p e.path (λ is.
@@ -141,7 +146,7 @@ AreApart-moved : (source target : List (List ℕ)) (es : List TreeEntry) → All
 AreApart-moved source target [] all order = tt
 AreApart-moved source target (e ∷ es) all order = (
   nothing_mapped (entry_at (path_after source target e.path) (moved source target es))
-      (found-some source target (path_after source target e.path) e.path es all.1 (path-back source target e.path all.0) ∙ ap (option_map shape_of_entry) (entry_at-after e.path es order.0)),
+      (found-some shape_of_entry (λ x p. refl) source target (path_after source target e.path) e.path es all.1 (path-back source target e.path all.0) ∙ ap (option_map shape_of_entry) (entry_at-after e.path es order.0)),
   AreApart-moved source target es all.1 order.1,
 )
 
@@ -158,12 +163,12 @@ entry_at-ordered q (e ∷ es) apart =
           ∙ sym (ap (λ v. cond v (Some e) (entry_at q es)) s)
     ]
 
--- what stands in the tree after a rename is of the shape of what stood before
-pub shape-moved : (source target q : List (List ℕ)) (es : List TreeEntry) → AllOutside target es → AreInOrder es → (o : Option (List (List ℕ))) → path_before source target q ≡ o → option_map shape_of_entry (entry_at q (in_path_order (moved source target es))) ≡ option_and_then (λ p. option_map shape_of_entry (entry_at p es)) o
-shape-moved source target q es all order None e =
-    ap (option_map shape_of_entry) (entry_at-ordered q (moved source target es) (AreApart-moved source target es all order) ∙ found-none source target q es all e)
-shape-moved source target q es all order (Some p) e =
-    ap (option_map shape_of_entry) (entry_at-ordered q (moved source target es) (AreApart-moved source target es all order)) ∙ found-some source target q p es all e
+-- what stands in the tree after a rename is as what stood before, but for its path
+pub entry-moved : {Y : Type 0} (f : TreeEntry → Y) → IgnoresPath f → (source target q : List (List ℕ)) (es : List TreeEntry) → AllOutside target es → AreInOrder es → (o : Option (List (List ℕ))) → path_before source target q ≡ o → option_map f (entry_at q (in_path_order (moved source target es))) ≡ option_and_then (λ p. option_map f (entry_at p es)) o
+entry-moved f ignores source target q es all order None e =
+    ap (option_map f) (entry_at-ordered q (moved source target es) (AreApart-moved source target es all order) ∙ found-none source target q es all e)
+entry-moved f ignores source target q es all order (Some p) e =
+    ap (option_map f) (entry_at-ordered q (moved source target es) (AreApart-moved source target es all order)) ∙ found-some f ignores source target q p es all e
 
 -- ---- sizes
 

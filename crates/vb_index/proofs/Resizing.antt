@@ -158,7 +158,7 @@ page_count-with path bytes (x ∷ xs) e found = elim (cases_Bool (same_path path
 ]
 
 -- the entry with its new bytes
-entry_at-with : (path : List (List ℕ)) (bytes : List ℕ) (es : List TreeEntry) → entry_at path (with_bytes_at path bytes es) ≡ option_map {T = TreeEntry} {U = TreeEntry} (λ e. record e { bytes = bytes }) (entry_at path es)
+pub entry_at-with : (path : List (List ℕ)) (bytes : List ℕ) (es : List TreeEntry) → entry_at path (with_bytes_at path bytes es) ≡ option_map {T = TreeEntry} {U = TreeEntry} (λ e. record e { bytes = bytes }) (entry_at path es)
 entry_at-with path bytes [] = refl
 entry_at-with path bytes (e ∷ es) = elim (cases_Bool (same_path path e.path)) [
   | inl h ↦ ap (λ v. entry_at path (cond v (record e { bytes = bytes } ∷ es) (e ∷ with_bytes_at path bytes es))) h ∙ ap (λ v. cond v (Some (record e { bytes = bytes })) (entry_at path es)) h ∙ sym (ap (λ v. option_map {T = TreeEntry} {U = TreeEntry} (λ (x : TreeEntry). record x { bytes = bytes }) (cond v (Some e) (entry_at path es))) h)
@@ -166,7 +166,7 @@ entry_at-with path bytes (e ∷ es) = elim (cases_Bool (same_path path e.path)) 
 ]
 
 -- the entries elsewhere stay
-entry_at-beside : (q path : List (List ℕ)) (bytes : List ℕ) (es : List TreeEntry) → (q ≡ path → ⊥) → entry_at q (with_bytes_at path bytes es) ≡ entry_at q es
+pub entry_at-beside : (q path : List (List ℕ)) (bytes : List ℕ) (es : List TreeEntry) → (q ≡ path → ⊥) → entry_at q (with_bytes_at path bytes es) ≡ entry_at q es
 entry_at-beside q path bytes [] apart = refl
 entry_at-beside q path bytes (e ∷ es) apart = elim (cases_Bool (same_path path e.path)) [
   | inl h ↦ (let other : same_path q e.path ≡ false = elim (cases_Bool (same_path q e.path)) [ inr g ↦ g | inl g ↦ absurd (apart ((same_path-Decides q e.path).0 g ∙ sym ((same_path-Decides path e.path).0 h))) ] in

@@ -1,4 +1,5 @@
 pub mod Changes
+pub mod Contents
 pub mod Indexes
 pub mod Listings
 pub mod Moves

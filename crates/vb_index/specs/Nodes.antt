@@ -11,8 +11,7 @@ use Rattle.vb_inode.specs.declared.node.NodeKind.{NodeKind}
 use Rattle.vb_inode.specs.declared.node.NodeKind.TheVariants.{Free as FreeNode, Folder as FolderNode, File as FileNode}
 use Rattle.vb_tree.specs.declared.tree.Kind.{Kind}
 use Rattle.vb_tree.specs.declared.tree.Kind.TheVariants.{Folder, File}
-use Rattle.vb_tree.specs.Refusals.{longest_file}
-use Rattle.vb_tree.specs.Trees.{data_pages_of, pages_of_length}
+use Rattle.vb_tree.specs.Trees.{longest_file, data_pages_of, pages_of_length}
 
 -- whether a node is a folder
 abbrev pub is_folder_node : NodeKind → Bool

@@ -1,15 +1,18 @@
 // The index: limits, and nodes with the references of their pages.
-ghost use Rattle.std.specs.Prelude.{◌≡◌, ◌++◌, ◌-◌, ◌<◌, true, replicate, length, unwrap_or, slice_set, [], ◌∷◌, map, List, ℕ, Option, Some, None, IfOk, OnOk, OnErr};
+ghost use Rattle.std.specs.Prelude.{◌≡◌, ◌++◌, ◌-◌, ◌<◌, ◌≤◌, true, replicate, length, unwrap_or, slice_set, [], ◌∷◌, map, List, ℕ, Option, Some, None, Err, IfOk, OnOk, OnErr};
 ghost use Rattle.std.specs.Option.{option_copied, option_map, option_or};
 ghost use Rattle.std.specs.Result.{result_err};
+ghost use Rattle.vb_path.specs.Paths.{IsPath};
 ghost use Rattle.vb_tree.specs.declared.reply.Refusal.{Refusal};
 ghost use Rattle.vb_tree.specs.declared.tree.TreeEntry.{TreeEntry};
-ghost use Rattle.vb_tree.specs.Trees.{insert_entry, with_bytes_at, without, parent_of, name_of, names_in, AreInLimits, IsTree};
+ghost use Rattle.vb_tree.specs.Trees.{longest_file, data_pages_of, insert_entry, with_bytes_at, without, parent_of, name_of, names_in, AreInLimits, IsTree};
 ghost use Rattle.vb_tree.specs.Refusals.{refuse_new, refuse_missing, refuse_unless_file, refuse_resize, refusal_of};
-ghost use Rattle.vb_index.specs.Nodes.{root_held, refs_at, held_at, holds_folder, child_of, slot_at, nodes_in, pages_in, IsHeld};
+ghost use Rattle.vb_index.specs.Nodes.{root_held, refs_at, held_at, holds_folder, child_of, slot_at, nodes_in, pages_in, IsHeld, IsTable};
 ghost use Rattle.vb_index.specs.Indexes.{shape_of, shape_of_entry, HasShapeOf, IsAnswer, IsLeastFree, new_held};
-ghost use Rattle.vb_index.specs.Changes.{removal_of, resized, with_ref};
+ghost use Rattle.vb_index.specs.Changes.{removal_of, resized, with_ref, IsFileAt};
+ghost use Rattle.vb_index.specs.Contents.{HasPages, HasTree, KeepsOthers};
 ghost use Rattle.vb_index.specs.Listings.{name_at, AreEntries, AreInPathOrder};
+ghost use Rattle.vb_index.specs.declared.errors.IndexError.TheVariants as IndexErrors;
 ghost use Rattle.vb_index.specs.declared.held.Held.{Held};
 
 mod renames;
@@ -51,6 +54,7 @@ impl Index {
           nodes = Some root_held ∷ replicate (limits.nodes - 1) None;
         }) }
         ensures tree { IfOk result (λ index. HasShapeOf index.nodes []) }
+        ensures contents { (pages : ℕ → ℕ → List ℕ) → IfOk result (λ index. HasTree index.nodes pages []) }
     {
         Ok(Index {
             limits,
@@ -80,7 +84,8 @@ impl Index {
 
     /// How many nodes there are, the root among them.
     pub fn count(&self) -> u32
-        ensures { result ≡ nodes_in self.now.nodes }
+        ensures count { result ≡ nodes_in self.now.nodes }
+        ensures table { IsTable self.now.nodes }
     {
         self.table.count()
     }
@@ -127,6 +132,10 @@ impl Index {
         ensures tree { (tree : List TreeEntry) → HasShapeOf self.old.nodes tree
             → OnOk result (HasShapeOf self.new.nodes
             (insert_entry (record { path = path.now; kind = kind; bytes = [] }) tree)) }
+        ensures contents { (pages : ℕ → ℕ → List ℕ) (tree : List TreeEntry)
+            → HasTree self.old.nodes pages tree
+            → OnOk result (HasTree self.new.nodes pages
+            (insert_entry (record { path = path.now; kind = kind; bytes = [] }) tree)) }
         ensures slot { IfOk result (λ slot. IsLeastFree self.old.nodes slot) }
         ensures nodes { IfOk result (λ slot. (folder : ℕ)
             × (slot_at self.old.nodes (parent_of path.now) ≡ Some folder)
@@ -150,6 +159,9 @@ impl Index {
             → IsAnswer (refusal_of self.old.limits tree (removal_of kind path.now)) result }
         ensures tree { (tree : List TreeEntry) → IsTree tree → HasShapeOf self.old.nodes tree
             → OnOk result (HasShapeOf self.new.nodes (without path.now tree)) }
+        ensures contents { (pages : ℕ → ℕ → List ℕ) (tree : List TreeEntry)
+            → HasTree self.old.nodes pages tree
+            → OnOk result (HasTree self.new.nodes pages (without path.now tree)) }
         ensures slot { IfOk result (λ slot. slot_at self.old.nodes path.now ≡ Some slot) }
         ensures nodes { IfOk result (λ slot. self.new ≡ record self.old {
           nodes = slice_set self.old.nodes slot None;
@@ -161,8 +173,20 @@ impl Index {
         Ok(slot)
     }
 
+    /// The slot of the file at a path, where it may get a length, and else the reason why it may
+    /// not. It changes nothing.
+    pub fn judge_resize(&self, path: &Path, len: u64) -> Result<u32, Refusal>
+        ensures refused { (tree : List TreeEntry) → HasShapeOf self.now.nodes tree
+            → refuse_unless_file tree path.now
+            (refuse_resize self.now.limits tree path.now len) ≡ result_err result }
+        ensures found { IfOk result (λ slot. IsFileAt self.now.nodes path.now slot) }
+        ensures short { OnOk result (len ≤ longest_file) }
+    {
+        resizable(self.limits, &self.table, path.parts(), len)
+    }
+
     /// Gives a file another length. Pages that it keeps keep their references, and a new page has the place 0
-    /// and a digest of zeros.
+    /// and a digest of zeros. No more pages than before take no memory.
     pub fn resize(&mut self, path: &Path, len: u64) -> Result<(), IndexError>
         ensures answer { (tree : List TreeEntry) → HasShapeOf self.old.nodes tree
             → IsAnswer (refuse_unless_file tree path.now
@@ -170,12 +194,20 @@ impl Index {
         ensures tree { (tree : List TreeEntry) (bytes : List ℕ) → HasShapeOf self.old.nodes tree
             → length bytes ≡ len
             → OnOk result (HasShapeOf self.new.nodes (with_bytes_at path.now bytes tree)) }
+        ensures contents { (pages changed : ℕ → ℕ → List ℕ) (tree : List TreeEntry) (bytes : List ℕ) (slot : ℕ)
+            → HasTree self.old.nodes pages tree → length bytes ≡ len
+            → slot_at self.old.nodes path.now ≡ Some slot
+            → HasPages changed slot bytes → KeepsOthers slot pages changed
+            → OnOk result (HasTree self.new.nodes changed (with_bytes_at path.now bytes tree)) }
         ensures nodes { OnOk result ((slot : ℕ) × (held : Held)
             × (slot_at self.old.nodes path.now ≡ Some slot)
             × (held_at self.old.nodes slot ≡ Some held)
             × (self.new ≡ record self.old {
               nodes = slice_set self.old.nodes slot (Some (resized len held));
             })) }
+        ensures shorter { (slot : ℕ) (held : Held) → slot_at self.old.nodes path.now ≡ Some slot
+            → held_at self.old.nodes slot ≡ Some held → data_pages_of len ≤ length held.refs
+            → result ≡ Err IndexErrors.Memory → ⊥ }
         ensures err { OnErr result (self.new ≡ self.old) }
     {
         let slot = resizable(self.limits, &self.table, path.parts(), len)?;
@@ -188,6 +220,8 @@ impl Index {
         requires { page < length (unwrap_or (refs_at self.old.nodes slot) []) }
         ensures tree { (tree : List TreeEntry) → HasShapeOf self.old.nodes tree
             → HasShapeOf self.new.nodes tree }
+        ensures contents { (pages : ℕ → ℕ → List ℕ) (tree : List TreeEntry)
+            → HasTree self.old.nodes pages tree → HasTree self.new.nodes pages tree }
         ensures nodes { (held : Held) × (held_at self.old.nodes slot ≡ Some held)
             × (self.new ≡ record self.old {
               nodes = slice_set self.old.nodes slot (Some (with_ref page reference held));
@@ -220,6 +254,13 @@ impl Index {
             → entry.path ≡ folder ++ node.name ∷ []
             → shape_of_entry entry ≡ shape_of (record { node = node; refs = refs })
             → OnOk result (HasShapeOf self.new.nodes (insert_entry entry tree)) }
+        ensures contents { (pages : ℕ → ℕ → List ℕ) (tree : List TreeEntry) (folder : List (List ℕ)) (entry : TreeEntry)
+            → HasTree self.old.nodes pages tree
+            → slot_at self.old.nodes folder ≡ Some node.parent
+            → IsPath entry.path → entry.path ≡ folder ++ node.name ∷ []
+            → shape_of_entry entry ≡ shape_of (record { node = node; refs = refs })
+            → HasPages pages node.slot entry.bytes
+            → OnOk result (HasTree self.new.nodes pages (insert_entry entry tree)) }
         ensures nodes { OnOk result (self.new ≡ record self.old {
           nodes = slice_set self.old.nodes node.slot
               (Some (record { node = node; refs = refs }));

@@ -2,7 +2,7 @@
 ghost use Rattle.std.specs.Prelude.{◌≡◌, ◌<◌, ◌≤◌, ◌||◌, ◌&&◌, false, not, nat_lt, is_some, List, ℕ, length, Option, Some, None, IfOk, OnOk, OnErr};
 ghost use Rattle.std.specs.Option.{option_or};
 ghost use Rattle.std.specs.Result.{result_err};
-ghost use Rattle.vb_path.specs.Paths.{same_path, text_of_path};
+ghost use Rattle.vb_path.specs.Paths.{same_path, text_of_path, IsPath};
 ghost use Rattle.vb_tree.specs.declared.tree.TreeEntry.{TreeEntry};
 ghost use Rattle.vb_tree.specs.declared.reply.Refusal.{Refusal};
 ghost use Rattle.vb_tree.specs.declared.reply.Refusal.TheVariants.{RootFixed, Exists, IntoItself};
@@ -38,6 +38,7 @@ pub(crate) fn source_of(table: &Table, source: &Path, target: &Path) -> Result<u
     ensures found { IfOk result (λ slot. slot_at table.now source.now ≡ Some slot) }
     ensures source { OnOk result (is_root source.now ≡ false) }
     ensures target { OnOk result (is_root target.now ≡ false) }
+    ensures valid { OnOk result (IsPath source.now) }
 {
     if source.parts().is_empty() || target.parts().is_empty() {
         return Err(Refusal::RootFixed);

@@ -1,19 +1,19 @@
 // Files that get another length: whether one may, and what is held of it then.
-ghost use Rattle.std.specs.Prelude.{◌≡◌, ◌+◌, ◌-◌, ◌^◌, ◌<◌, ◌≤◌, true, List, length, Some, None, IfOk, IfErr, OnOk, OnErr};
+ghost use Rattle.std.specs.Prelude.{◌≡◌, ◌+◌, ◌++◌, ◌-◌, ◌^◌, ◌<◌, ◌≤◌, true, List, length, take, replicate, Some, None, IfOk, IfErr, IsOk, OnOk, OnErr};
 ghost use Rattle.std.specs.Option.{option_map, ForSome};
 ghost use Rattle.std.specs.Result.{result_err};
 ghost use Rattle.vb_tree.specs.declared.reply.Refusal.TheVariants as refusals;
 ghost use Rattle.vb_tree.specs.declared.tree.TreeEntry.{TreeEntry};
-ghost use Rattle.vb_tree.specs.Trees.{pages_of_length};
-ghost use Rattle.vb_tree.specs.Refusals.{longest_file, refuse_length, refuse_unless_file, refuse_resize};
+ghost use Rattle.vb_tree.specs.Trees.{longest_file, data_pages_of, pages_of_length};
+ghost use Rattle.vb_tree.specs.Refusals.{refuse_length, refuse_unless_file, refuse_resize};
 ghost use Rattle.vb_index.specs.Indexes.{HasShapeOf};
 ghost use Rattle.vb_index.specs.declared.held.Held.{Held};
 ghost use Rattle.vb_index.specs.Nodes.{is_file_node, held_at, refs_at};
-ghost use Rattle.vb_index.specs.Changes.{resized, with_ref, IsFileAt};
+ghost use Rattle.vb_index.specs.Changes.{blank_ref, resized, with_ref, IsFileAt};
 
 use crate::table::Table;
 use crate::walk::slot_of;
-use crate::{Bytes, Digest, Held, Limits, NodeKind, Ref, Refusal};
+use crate::{Bytes, Digest, Held, Limits, NodeKind, Ref, Refs, Refusal};
 use std::alloc::AllocError;
 use vb_tree::{LONGEST_FILE, pages_of};
 
@@ -71,17 +71,32 @@ pub(crate) fn resizable(
     Ok(slot)
 }
 
-/// Gives a file another length, and one reference for each page.
-fn resize_held(held: &mut Held, len: u64) -> Result<(), AllocError>
-    requires { len ≤ longest_file }
-    ensures ok { OnOk result (held.new ≡ resized len held.old) }
-    ensures err { OnErr result (held.new ≡ held.old) }
+/// Cuts references to so many, or adds ones that were never committed. Fewer take no memory.
+fn resize_refs(refs: &mut Refs, pages: usize) -> Result<(), AllocError>
+    ensures ok { OnOk result (refs.new
+        ≡ take pages refs.old ++ replicate (pages - length refs.old) blank_ref) }
+    ensures shorter { pages ≤ length refs.old → IsOk result }
+    ensures err { OnErr result (refs.new ≡ refs.old) }
 {
+    if pages <= refs.len() {
+        refs.truncate(pages);
+        return Ok(());
+    }
     let blank = Ref {
         place: 0,
         digest: Digest::of([0; 32]),
     };
-    held.refs.resize(len.div_ceil(4096) as usize, blank)?;
+    refs.resize(pages, blank)
+}
+
+/// Gives a file another length, and one reference for each page.
+fn resize_held(held: &mut Held, len: u64) -> Result<(), AllocError>
+    requires { len ≤ longest_file }
+    ensures ok { OnOk result (held.new ≡ resized len held.old) }
+    ensures shorter { data_pages_of len ≤ length held.old.refs → IsOk result }
+    ensures err { OnErr result (held.new ≡ held.old) }
+{
+    resize_refs(&mut held.refs, len.div_ceil(4096) as usize)?;
     held.node.length = len;
     Ok(())
 }
@@ -90,6 +105,8 @@ fn resize_held(held: &mut Held, len: u64) -> Result<(), AllocError>
 pub(crate) fn resize_slot(slot: &mut Option<Held>, len: u64) -> Result<(), AllocError>
     requires { len ≤ longest_file }
     ensures ok { OnOk result (slot.new ≡ option_map (resized len) slot.old) }
+    ensures shorter { (held : Held) → slot.old ≡ Some held
+        → data_pages_of len ≤ length held.refs → IsOk result }
     ensures err { OnErr result (slot.new ≡ slot.old) }
 {
     match slot {

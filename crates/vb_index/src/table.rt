@@ -1,12 +1,12 @@
 // The table of nodes: by slot, and by folder and name.
-ghost use Rattle.std.specs.Prelude.{◌≡◌, ◌-◌, ◌<◌, ◌≤◌, true, [], ◌∷◌, replicate, length, unwrap_or, Some, None, IsSome, IsTrue, ◌↔◌, List, ℕ, IfOk, OnOk, OnErr, slice_set};
+ghost use Rattle.std.specs.Prelude.{◌≡◌, ◌-◌, ◌<◌, ◌≤◌, true, [], ◌∷◌, replicate, length, unwrap_or, Some, None, IsSome, IsTrue, ◌↔◌, List, ℕ, IfOk, IsOk, OnOk, OnErr, slice_set};
 ghost use Rattle.std.specs.Option.{option_copied, option_and_then};
 ghost use Rattle.vb_index.specs.Nodes.{root_held, held_at, holds_folder, refs_at, child_of, nodes_in, pages_in, IsHeld, IsTable};
 ghost use Rattle.vb_index.specs.Indexes.{IsLeastFree};
 ghost use Rattle.vb_index.specs.Changes.{resized, with_ref, IsBare};
 ghost use Rattle.vb_index.specs.Listings.{AreEntries};
 ghost use Rattle.vb_index.specs.declared.held.Held.{Held};
-ghost use Rattle.vb_tree.specs.Refusals.{longest_file};
+ghost use Rattle.vb_tree.specs.Trees.{longest_file, data_pages_of};
 
 mod places;
 
@@ -163,6 +163,8 @@ impl Table {
         requires short { len ≤ longest_file }
         ensures ok { (held : Held) → held_at self.old slot ≡ Some held
             → OnOk result (self.new ≡ slice_set self.old slot (Some (resized len held))) }
+        ensures shorter { (held : Held) → held_at self.old slot ≡ Some held
+            → data_pages_of len ≤ length held.refs → IsOk result }
         ensures err { OnErr result (self.new ≡ self.old) }
     {
         let Some(held) = held_in(&self.nodes, slot as usize) else {

@@ -1,8 +1,7 @@
 -- Nodes: which names, parents and lengths they may have, and how many map pages a file takes.
 use Rattle.std.specs.Prelude.{◌≡◌, ℕ, Bool, true, false, ◌||◌, ◌==◌, nat_le, if◌then◌else◌, IsTrue, List, length}
 use Rattle.vb_path.specs.Parts.{is_part}
-use Rattle.vb_tree.specs.Trees.{map_pages_of}
-use Rattle.vb_tree.specs.Refusals.{longest_file}
+use Rattle.vb_tree.specs.Trees.{longest_file, map_pages_of}
 use Rattle.vb_inode.specs.declared.node.Node.{Node}
 use Rattle.vb_inode.specs.declared.node.NodeKind.{NodeKind}
 use Rattle.vb_inode.specs.declared.node.NodeKind.TheVariants.{Free, Folder, File}

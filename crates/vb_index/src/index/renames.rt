@@ -1,10 +1,11 @@
 // Renames in an index.
-ghost use Rattle.std.specs.Prelude.{◌≡◌, List, IfOk, OnOk, OnErr};
+ghost use Rattle.std.specs.Prelude.{◌≡◌, ℕ, List, IfOk, OnOk, OnErr};
 ghost use Rattle.vb_tree.specs.declared.operation.Op.{Op};
 ghost use Rattle.vb_tree.specs.declared.tree.TreeEntry.{TreeEntry};
 ghost use Rattle.vb_tree.specs.Trees.{IsTree};
 ghost use Rattle.vb_tree.specs.Refusals.{refusal_of};
 ghost use Rattle.vb_tree.specs.Renames.{renamed};
+ghost use Rattle.vb_index.specs.Contents.{HasTree};
 ghost use Rattle.vb_index.specs.Indexes.{HasShapeOf, IsAnswer};
 ghost use Rattle.vb_index.specs.Moves.{renamed_nodes, replaced_slot};
 
@@ -27,6 +28,9 @@ impl Index {
             → IsAnswer (refusal_of self.old.limits tree (Op.Rename source.now target.now)) result }
         ensures tree { (tree : List TreeEntry) → IsTree tree → HasShapeOf self.old.nodes tree
             → OnOk result (HasShapeOf self.new.nodes (renamed source.now target.now tree)) }
+        ensures contents { (pages : ℕ → ℕ → List ℕ) (tree : List TreeEntry)
+            → HasTree self.old.nodes pages tree
+            → OnOk result (HasTree self.new.nodes pages (renamed source.now target.now tree)) }
         ensures nodes { OnOk result (self.new ≡ record self.old {
           nodes = renamed_nodes source.now target.now self.old.nodes;
         }) }

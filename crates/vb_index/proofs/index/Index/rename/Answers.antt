@@ -5,25 +5,27 @@ use Rattle.vb_index.specs.Indexes.{IndexState, HasShapeOf}
 use Rattle.vb_index.specs.Moves.{with_place, without_slot, renamed_nodes, replaced_slot, MayPlace, MayReplace}
 use Rattle.vb_index.proofs.MovedShapes.{renamed-shape}
 use Rattle.vb_index.proofs.Renamed.{may-place, may-replace, renamed-is, replaced-is}
+use Rattle.vb_index.specs.Contents.{HasTree}
+use Rattle.vb_index.proofs.RenamedContents.{rename-allowed, renamed-tree}
 use Rattle.vb_index.proofs.index.Index.rename.Goals as goal
 
 pub put_in_place-requires-clause-free : goal.put_in_place-requires-clause-free
 put_in_place-requires-clause-free c = λ none.
     let P : List ℕ → Type 0 = λ name. MayPlace c.self.inside.table c.in_ok-slot.slot c.in_ok-place.place.folder name in
-    subst P (sym (c.last_of-name.ensures ∙ ap name_of c.parts.ensures))
+    subst P (sym (c.last_of-name.ensures ∙ ap name_of c.parts.ensures.same))
     (may-place c.self.inside.table c.args.source.now c.args.target.now c.in_ok-slot.slot c.in_ok-place.place.folder c.in_ok-place.place.replaced c.in_ok-slot.ensures.source c.in_ok-slot.ensures.found c.in_ok-place.ensures.found none)
 
 pub put_in_place-requires-clause-taken : goal.put_in_place-requires-clause-taken
 put_in_place-requires-clause-taken c = λ other is.
     let P : List ℕ → Type 0 = λ name. MayReplace c.self.inside.table c.in_ok-slot.slot other c.in_ok-place.place.folder name in
-    subst P (sym (c.last_of-name.ensures ∙ ap name_of c.parts.ensures))
+    subst P (sym (c.last_of-name.ensures ∙ ap name_of c.parts.ensures.same))
     (may-replace c.self.inside.table c.args.source.now c.args.target.now c.in_ok-slot.slot c.in_ok-place.place.folder c.in_ok-place.place.replaced other c.in_ok-slot.ensures.source c.in_ok-slot.ensures.target (sym c.eq.ensures ∙ c.if-eq.false) c.in_ok-slot.ensures.found c.in_ok-place.ensures.found is)
 
 pub returns-clause-nodes : goal.returns-clause-nodes
 returns-clause-nodes c =
     let nodes : c.args.self.now.nodes ≡ c.self.inside.table = ap (λ (s : IndexState). s.nodes) (sym c.self.view_is) in
     let limits : c.args.self.now.limits ≡ c.self.inside.limits = ap (λ (s : IndexState). s.limits) (sym c.self.view_is) in
-    let name : c.last_of-name.result.now ≡ name_of c.args.target.now = c.last_of-name.ensures ∙ ap name_of c.parts.ensures in
+    let name : c.last_of-name.result.now ≡ name_of c.args.target.now = c.last_of-name.ensures ∙ ap name_of c.parts.ensures.same in
     let is : c.put_in_place.new.table ≡ renamed_nodes c.args.source.now c.args.target.now c.args.self.now.nodes =
     c.in_ok-put_in_place.ensures.ok
     ∙ ap (λ n. with_place (without_slot c.self.inside.table c.in_ok-place.place.replaced) c.in_ok-slot.slot c.in_ok-place.place.folder n) name
@@ -42,4 +44,16 @@ returns-clause-tree c = λ tree is_tree shape.
     let nodes : c.args.self.now.nodes ≡ c.self.inside.table = ap (λ (s : IndexState). s.nodes) (sym c.self.view_is) in
     let P : List (Option Held) → Type 0 = λ ns. HasShapeOf ns tree in
     renamed-shape c.self.inside.table c.put_in_place.new.table tree c.args.source.now c.args.target.now c.in_ok-slot.slot c.in_ok-place.place.folder c.in_ok-place.place.replaced (subst P nodes shape) is_tree c.in_ok-slot.ensures.source c.in_ok-slot.ensures.target (sym c.eq.ensures ∙ c.if-eq.false) c.in_ok-slot.ensures.found c.in_ok-place.ensures.found
-    (c.in_ok-put_in_place.ensures.ok ∙ ap (λ n. with_place (without_slot c.self.inside.table c.in_ok-place.place.replaced) c.in_ok-slot.slot c.in_ok-place.place.folder n) (c.last_of-name.ensures ∙ ap name_of c.parts.ensures))
+    (c.in_ok-put_in_place.ensures.ok ∙ ap (λ n. with_place (without_slot c.self.inside.table c.in_ok-place.place.replaced) c.in_ok-slot.slot c.in_ok-place.place.folder n) (c.last_of-name.ensures ∙ ap name_of c.parts.ensures.same))
+
+pub returns-clause-contents : goal.returns-clause-contents
+returns-clause-contents c = λ pages tree has.
+    let nodes : c.args.self.now.nodes ≡ c.self.inside.table = ap (λ (s : IndexState). s.nodes) (sym c.self.view_is) in
+    let P : List (Option Held) → Type 0 = λ ns. HasTree ns pages tree in
+    let here : HasTree c.self.inside.table pages tree = subst P nodes has in
+    let source = c.args.source.now in
+    let target = c.args.target.now in
+    renamed-tree c.self.inside.table c.put_in_place.new.table tree c.self.inside.limits source target c.in_ok-slot.slot c.in_ok-place.place.folder c.in_ok-place.place.replaced pages here c.in_ok-slot.ensures.valid c.parts.ensures.valid
+    (rename-allowed c.self.inside.limits tree source target (λ next. c.in_ok-slot.ensures.refused tree next here.shape) (sym c.eq.ensures ∙ c.if-eq.false) (c.in_ok-place.ensures.refused tree here.shape))
+    c.in_ok-slot.ensures.source c.in_ok-slot.ensures.target (sym c.eq.ensures ∙ c.if-eq.false) c.in_ok-slot.ensures.found c.in_ok-place.ensures.found
+    (c.in_ok-put_in_place.ensures.ok ∙ ap (λ n. with_place (without_slot c.self.inside.table c.in_ok-place.place.replaced) c.in_ok-slot.slot c.in_ok-place.place.folder n) (c.last_of-name.ensures ∙ ap name_of c.parts.ensures.same))
