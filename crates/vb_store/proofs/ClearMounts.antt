@@ -53,11 +53,11 @@ IsClear-moments before after begun d new disk clear step =
 
 -- ---- a sync
 
-pub last-crash : (d : DiskState) → MayCrashTo d (record (synced d) { syncs = d.syncs })
-last-crash d = record { size = refl; writes = refl; syncs = refl; each = λ place. last_picked (d.cells place) }
+pub last-crash : (d : DiskState) → MayCrashTo d (record (synced d) { synced_at = d.synced_at })
+last-crash d = record { size = refl; writes = refl; resizes = refl; synced_at = refl; each = λ place. last_picked (d.cells place) }
 
 pub IsClear-synced : (d : DiskState) → IsClear d → IsClear (synced d)
 IsClear-synced d clear whole new crash =
-    let left : DiskState = record (synced d) { syncs = d.syncs } in
-    let has = IsClear-crashed d left clear (last-crash d) whole (record new { syncs = d.syncs }) (record { size = crash.size; writes = crash.writes; syncs = refl; each = crash.each }) in
+    let left : DiskState = record (synced d) { synced_at = d.synced_at } in
+    let has = IsClear-crashed d left clear (last-crash d) whole (record new { synced_at = d.synced_at }) (record { size = crash.size; writes = crash.writes; resizes = crash.resizes; synced_at = refl; each = crash.each }) in
     record { epoch = has.epoch; tree = has.tree; recovers = has.recovers }

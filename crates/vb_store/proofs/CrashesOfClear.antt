@@ -28,7 +28,7 @@ untorn cell new one (inr torn) = absurd (omega (arith, torn.several, ap length o
 hurt_through : (whole : Bool) (old mid new : Cell) → (new.hurt ≡ (taken_cell whole mid).hurt) → (mid.hurt ≡ old.hurt) ⊎ IsTorn old mid → (new.hurt ≡ (taken_cell whole old).hurt) ⊎ IsTorn (taken_cell whole old) new
 hurt_through true old mid new last first = inl last
 hurt_through false old mid new last (inl same) = inl (last ∙ same)
-hurt_through false old mid new last (inr torn) = inr (record { several = torn.several; bytes = torn.bytes; reads = last ∙ torn.reads; miss = torn.miss })
+hurt_through false old mid new last (inr torn) = inr (record { several = torn.several; bytes = torn.bytes; reads = last ∙ torn.reads; page = torn.page; miss = torn.miss })
 
 later-taken : (whole : Bool) (cell : Cell) → (taken_cell whole cell).later ≡ cell.later
 later-taken true cell = refl
@@ -55,6 +55,7 @@ IsClear-crashed old new clear crash whole after again =
     clear whole after (record {
       size = again.size ∙ crash.size;
       writes = again.writes ∙ crash.writes;
-      syncs = again.syncs ∙ crash.syncs;
+      resizes = again.resizes ∙ crash.resizes;
+      synced_at = again.synced_at ∙ crash.synced_at;
       each = λ place. crash_through (whole place) (old.cells place) (new.cells place) (after.cells place) (crash.each place) (again.each place);
     })

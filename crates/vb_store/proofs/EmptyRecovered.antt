@@ -227,7 +227,7 @@ metadata-empty folder blocks nodes reads r =
     ap (λ (c : Result Head RecoverError). and_then c (λ head. unless (journal_fault reads head) (and_then (known_below reads head (head_place reads) (block_of reads head)) (λ known. let m : Result Metadata RecoverError = Ok (metadata_from head known) in m)))) (choice folder blocks nodes reads r)
     ∙ ap (λ (k : Result Mapped RecoverError). and_then k (λ known. let m : Result Metadata RecoverError = Ok (metadata_from h known) in m)) (known folder blocks nodes (head_place reads) reads r)
 
-free_placed : (table : List (Option Held)) (n : ℕ) → placed_by table (replicate n None) ≡ []
+pub free_placed : (table : List (Option Held)) (n : ℕ) → placed_by table (replicate n None) ≡ []
 free_placed table zero = refl
 free_placed table (suc n) = free_placed table n
 

@@ -72,7 +72,7 @@ IsMadeEmpty-alone folder blocks nodes old new made (suc (suc n)) =
 
 pub IsMadeEmpty-stands : (folder : List ℕ) (blocks nodes : ℕ) (old new after : DiskState) → IsMadeEmpty folder blocks nodes old new → MayCrashTo new after → after ≡ new
 IsMadeEmpty-stands folder blocks nodes old new after made crash =
-    same_state after new crash.size (λ place. cell_stands (new.cells place) (after.cells place) (IsMadeEmpty-alone folder blocks nodes old new made place) (crash.each place)) crash.writes crash.syncs
+    same_state after new crash.size (λ place. cell_stands (new.cells place) (after.cells place) (IsMadeEmpty-alone folder blocks nodes old new made place) (crash.each place)) crash.writes crash.resizes crash.synced_at
 
 -- ---- what is shown
 

@@ -8,13 +8,16 @@ pub mod Damages
 pub mod EmptyNodes
 pub mod EmptyRecovered
 pub mod EmptyStores
+pub mod EmptyViewLeft
 pub mod EmptyViews
 pub mod Faultless
 pub mod FilesKept
 pub mod HandedOver
 pub mod Homes
 pub mod HomesTold
+pub mod HurtReads
 pub mod ImagesTaken
+pub mod KnownViews
 pub mod MadeEmpty
 pub mod MapLists
 pub mod MountAnswers
@@ -25,6 +28,7 @@ pub mod MountRests
 pub mod Namings
 pub mod NamingsBegun
 pub mod NamingsEnded
+pub mod OneOfThem
 pub mod PlacesLeft
 pub mod PlacesUsed
 pub mod RecoveryRefusals
@@ -33,6 +37,7 @@ pub mod ReferencesSet
 pub mod SameJournals
 pub mod SameStores
 pub mod SameTrees
+pub mod ShownByChoices
 pub mod SlotsRead
 pub mod SoundImages
 pub mod Surveyed
@@ -40,3 +45,5 @@ pub mod TakenDisks
 pub mod TakenHeads
 pub mod TakenRecoveries
 pub mod TreesKept
+pub mod FileBytes
+pub mod ViewsOfClear

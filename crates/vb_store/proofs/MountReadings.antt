@@ -1,7 +1,9 @@
 -- What the reads of homes and map pages leave, and what comes at their end.
-use Rattle.std.proofs.Common.{◌≡◌, ◌≢◌, ◌⊎◌, inl, inr, ℕ, ◌+◌, ◌≤◌, List, [], ◌∷◌, length, Option, Some, None, Result, Ok, Err, OnOk, IfOk, IfErr, refl, sym, ap, subst, ◌∙◌, arith}
+use Rattle.std.proofs.Common.{◌≡◌, ◌≢◌, ◌⊎◌, inl, inr, Bool, true, false, ℕ, ◌+◌, ◌≤◌, List, [], ◌∷◌, length, Option, Some, None, Result, Ok, Err, OnOk, IfOk, IfErr, refl, sym, ap, subst, ◌∙◌, arith}
 use Rattle.std.specs.Option.{option_map}
-use Rattle.vb_disk.specs.Causes.{HasCause}
+use Rattle.vb_cause.specs.Causes.{HasCause, UsesFailures}
+use Rattle.vb_cause.specs.Faults.{counted}
+use Rattle.vb_steps.specs.Steps.{CallsOnce}
 use Rattle.vb_disk.specs.States.{DiskState, read_at}
 use Rattle.vb_head.specs.declared.head.Head.{Head}
 use Rattle.vb_journal.specs.declared.recover.Ahead.{Ahead}
@@ -121,6 +123,39 @@ reading-cause after answer phase result before then is cause = record {
     | inl same ↦ cause.failed same
     | inr memory ↦ absurd (cc memory)
   ];
+}
+
+-- and uses a failure
+pub reading-left : (after : MountStage) (answer : Result (Unit {0}) RecoverError) (phase : MountPhase) (result : Result Ahead RecoverError) (before then : Option ℕ) → Closes after answer phase result → UsesFailures DiskFault before then answer → UsesFailures DiskFault before then result
+reading-left after answer phase result before then is uses = record {
+  told = uses.told;
+  kept = uses.kept;
+  used = λ some err. elim (reading-errs after answer phase result DiskFault is err) [
+    | inl same ↦ uses.used some same
+    | inr memory ↦ absurd (cc memory)
+  ];
+}
+
+reading-again-at : (after : MountStage) (a : RecoverError) (phase : MountPhase) (result : Result Ahead RecoverError) → (phase ≡ Reading after) × (result ≡ Err a) → (let r : Result (Unit {0}) RecoverError = Err a in r ≡ Err Memory) → result ≡ Err Memory
+reading-again-at after a phase result is err = is.1 ∙ (let same : a ≡ Memory = cc err in ap (λ (x : RecoverError). Err x) same)
+
+once_ok : (due : Bool) (done : Unit {0}) (before then : ℕ) → CallsOnce Memory due before then (Ok done) → (then ≡ before) ⊎ (then ≡ counted before)
+once_ok true done before then called = inr (called.once refl (λ is. absurd (cc is)))
+once_ok false done before then called = inl (called.none refl)
+
+-- the read was the only call
+pub reading-called : (after : MountStage) (answer : Result (Unit {0}) RecoverError) (phase : MountPhase) (result : Result Ahead RecoverError) (due : Bool) (before then : ℕ) → Closes after answer phase result → CallsOnce Memory due before then answer → CallsOnce Memory due before then result
+reading-called after (Ok done) phase result due before then is called = record {
+  none = called.none;
+  once = λ some other. called.once some (λ err. absurd (cc err));
+  at_most = λ err. once_ok due done before then called;
+}
+reading-called after (Err a) phase result due before then is called = record {
+  none = called.none;
+  once = λ some other. called.once some (λ err. other (reading-again-at after a phase result is err));
+  at_most = λ err. called.at_most (
+      let both : (let r : Result Ahead RecoverError = Err a in r ≡ Err Memory) = sym is.1 ∙ err in
+      ap (λ (x : RecoverError). let r : Result (Unit {0}) RecoverError = Err x in r) (cc both));
 }
 
 -- damage has two digests that differ

@@ -123,7 +123,7 @@ head_refused begun e f refused choice =
     let error : f ≡ e = cc same in
     metadata-refused begun.size (reads_of begun) e (choice ∙ ap (λ (x : RecoverError). Err x) error)
 
-from_refused : (reads : ℕ → List ℕ) (head : Head) (o : Option RecoverError) (e : RecoverError) → recovered_from reads head o ≡ Err e → o ≡ Some e
+pub from_refused : (reads : ℕ → List ℕ) (head : Head) (o : Option RecoverError) (e : RecoverError) → recovered_from reads head o ≡ Err e → o ≡ Some e
 from_refused reads head None e is = absurd (cc is)
 from_refused reads head (Some f) e is = ap (λ (x : RecoverError). Some x) (cc is)
 

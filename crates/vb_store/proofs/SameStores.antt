@@ -32,6 +32,7 @@ use Rattle.vb_nodes.specs.declared.errors.TableError.TheVariants.{Wrong as Wrong
 use Rattle.vb_nodes.specs.Claiming.{ClaimsState, claim_answer, with_claim}
 use Rattle.vb_tree.specs.declared.tree.Limits.{Limits}
 use Rattle.vb_index.specs.Changes.{with_ref}
+use Rattle.vb_geometry.specs.Layout.{page_limit}
 use Rattle.vb_store.specs.Views.{limits_of}
 use Rattle.vb_journal.specs.Notes.{head_place}
 use Rattle.vb_store.specs.Metadata.{Mapped, Metadata, Standing, after_claim, after_page, all_claimed_by, and_then, block_of, claimed_by, claims_or_refusal, image_fault, images_fault, index_or_refusal, journal_fault, known_below, map_checked, mapped_from, maps_in, maps_left, maps_of, metadata_from, metadata_of, no_claims, node_checked, node_or_refusal, nodes_left, refuse, unless, with_ref_at, with_refs_at}
@@ -123,8 +124,8 @@ pub record HaveSameSize (head other : Head) : Type 0 where
 
 pub limits-same : (head other : Head) → HaveSameSize head other → limits_of other ≡ limits_of head
 limits-same head other size =
-    ap (λ (b : ℕ). let l : Limits = record { pages = (b - 2 - 2 * other.nodes) / 2; nodes = other.nodes } in l) size.blocks
-    ∙ ap (λ (n : ℕ). let l : Limits = record { pages = (head.blocks - 2 - 2 * n) / 2; nodes = n } in l) size.nodes
+    ap (λ (b : ℕ). let l : Limits = record { pages = page_limit b other.nodes; nodes = other.nodes } in l) size.blocks
+    ∙ ap (λ (n : ℕ). let l : Limits = record { pages = page_limit head.blocks n; nodes = n } in l) size.nodes
 
 pub claims-same : (head other : Head) → HaveSameSize head other → no_claims other ≡ no_claims head
 claims-same head other size =

@@ -50,6 +50,10 @@ placed-same old new table (Some held ∷ slots) same =
     either_way (IsSame old new) (held.node.slot == 0) (placed_by table slots) (insert_placed p (placed_by table slots)) rest
     (all_inserted (IsSame old new) p (placed_by table slots) (All-head (HasSamePages old new) (Some held) slots same) rest)
 
+-- the entries of a table whose pages read the same
+pub entries_of_held : (old new : ℕ → List ℕ) (held : List (Option Held)) → All (HasSamePages old new) held → entries_read new (placed_in held) ≡ entries_read old (placed_in held)
+entries_of_held old new held pages = entries-same old new (placed_in held) (placed-same old new held held pages)
+
 pub recovered-same : (size : ℕ) (m : Metadata) (old new : ℕ → List ℕ) → metadata_of size old ≡ Ok m → IsSameStore size m old new → All (HasSamePages old new) m.held → recovered size new ≡ recovered size old
 unfolding recovered
 recovered-same size m old new is store pages =

@@ -1,9 +1,10 @@
 -- Disks some of whose places are taken as whole.
 use Rattle.std.proofs.Common.{◌≡◌, ℕ, zero, suc, ◌+◌, Bool, true, false, cond, not, ◌||◌, nat_lt, List, [], ◌∷◌, ◌++◌, length, Option, Some, None, unwrap_or, refl, sym, ap, ◌∙◌, inl, arith}
+use Rattle.std.specs.List.{All}
 use Rattle.std.proofs.lemmas.List.{get_or_default}
 use Rattle.std.proofs.lemmas.Slice.Eq.{bytes_eq-Decides}
 use Rattle.sha2.specs.Sha256.{sha256}
-use Rattle.vb_block.specs.Pages.{IsSealed, seal_of, sealed_part}
+use Rattle.vb_block.specs.Pages.{IsPage, IsSealed, seal_of, sealed_part}
 use Rattle.vb_block.specs.declared.why.Why.TheVariants.{Slot}
 use Rattle.vb_disk.specs.declared.cell.Cell.{Cell}
 use Rattle.vb_disk.specs.Cells.{blank_cell, candidate_at, candidates, read_of, synced_cell}
@@ -47,6 +48,18 @@ miss_taken : (whole : Bool) (cell : Cell) (bytes : List ℕ) → (cell.hurt ≡ 
 miss_taken true cell bytes miss hurt = absurd (cc hurt)
 miss_taken false cell bytes miss hurt = miss hurt
 
+pages_taken : (whole : Bool) (cell : Cell) → All IsPage (candidates cell) → All IsPage (candidates (taken_cell whole cell))
+pages_taken true cell pages = pages
+pages_taken false cell pages = pages
+
+page_taken : (whole : Bool) (cell : Cell) (bytes : List ℕ) → (cell.hurt ≡ Some bytes → IsPage bytes) → (taken_cell whole cell).hurt ≡ Some bytes → IsPage bytes
+page_taken true cell bytes page hurt = absurd (cc hurt)
+page_taken false cell bytes page hurt = page hurt
+
+alone_taken : (whole : Bool) (cell : Cell) → cell.later ≡ [] → (taken_cell whole cell).later ≡ []
+alone_taken true cell alone = alone
+alone_taken false cell alone = alone
+
 -- a hurt place doesn't read as sealed bytes, so that one which does reads the same when it is taken as whole
 sealed_taken : (whole : Bool) (cell : Cell) → ((bytes : List ℕ) → cell.hurt ≡ Some bytes → IsMiss cell bytes) → is_sealed (read_of cell) ≡ true → read_of (taken_cell whole cell) ≡ read_of cell
 sealed_taken false cell misses sealed = refl
@@ -65,6 +78,12 @@ pub IsDiskState-taken : (whole : ℕ → Bool) (d : DiskState) → IsDiskState d
 IsDiskState-taken whole d is = record {
   blank_past_size = λ place past. blank_taken (whole place) (d.cells place) (is.blank_past_size place past);
   hurt_are_misses = λ place bytes. miss_taken (whole place) (d.cells place) bytes (is.hurt_are_misses place bytes);
+  candidates_are_pages = λ place. pages_taken (whole place) (d.cells place) (is.candidates_are_pages place);
+  hurt_are_pages = λ place bytes. page_taken (whole place) (d.cells place) bytes (is.hurt_are_pages place bytes);
+  counted = record {
+    covers = is.counted.covers;
+    settled = λ all place. alone_taken (whole place) (d.cells place) (is.counted.settled all place);
+  };
 }
 
 -- a crash may leave the last candidate of a place
@@ -80,7 +99,7 @@ pub clear-recovers : (whole : ℕ → Bool) (d : DiskState) → IsClear d → Re
 clear-recovers whole d clear =
     let taken : DiskState = taken_as whole d in
     let last : DiskState = record taken { cells = λ place. synced_cell (taken.cells place) } in
-    let has : RecoversTree last = clear whole last (record { size = refl; writes = refl; syncs = refl; each = λ place. last_picked (taken.cells place) }) in
+    let has : RecoversTree last = clear whole last (record { size = refl; writes = refl; resizes = refl; synced_at = refl; each = λ place. last_picked (taken.cells place) }) in
     record { epoch = has.epoch; tree = has.tree; recovers = has.recovers }
 
 -- ---- journals

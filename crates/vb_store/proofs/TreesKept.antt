@@ -41,7 +41,7 @@ pub metadata_of_tree : (size : ℕ) (reads : ℕ → List ℕ) (epoch : ℕ) (tr
 unfolding recovered
 metadata_of_tree size reads epoch tree is = metadata_by reads (metadata_of size reads) epoch tree is
 
-pages_kept : (start : ℕ) (old new : ℕ → List ℕ) → ((place : ℕ) → start ≤ place → new place ≡ old place) → (o : Option Held) → NamesFrom start o → HasSamePages old new o
+pub pages_kept : (start : ℕ) (old new : ℕ → List ℕ) → ((place : ℕ) → start ≤ place → new place ≡ old place) → (o : Option Held) → NamesFrom start o → HasSamePages old new o
 pages_kept start old new same None from = tt
 pages_kept start old new same (Some held) from = All-weaker (λ (r : Ref). start ≤ r.place) (λ (r : Ref). new r.place ≡ old r.place) (λ r inside. same r.place inside) held.refs from
 

@@ -1,5 +1,6 @@
 -- What makes a disk an empty store.
-use Rattle.std.specs.Prelude.{◌≡◌, ℕ, zero, suc, ◌+◌, ◌*◌, ◌≤◌, Bool, true, false, nat_lt, ◌==◌, if◌then◌else◌, List, [], ◌∷◌, ◌++◌, Option, Some, None, Result, Ok, Err}
+use Rattle.std.specs.Prelude.{◌≡◌, ℕ, zero, suc, ◌+◌, ◌*◌, ◌≤◌, min, Bool, true, false, nat_lt, ◌==◌, if◌then◌else◌, List, [], ◌∷◌, ◌++◌, Option, Some, None, Result, Ok, Err}
+use Rattle.vb_cause.specs.Faults.{greatest_count}
 use Rattle.vb_disk.specs.declared.disk_error.DiskError.{DiskError}
 use Rattle.vb_disk.specs.declared.disk_error.DiskError.TheVariants as disk_errors
 use Rattle.vb_disk.specs.States.{DiskState, DiskCall, Write, Sync, Resize, read_at}
@@ -79,6 +80,18 @@ format_calls id blocks nodes =
     Resize blocks
     ∷ turn_calls (head_page (making_head id blocks nodes)) First
     ++ (home_calls nodes ++ (Sync ∷ turn_calls (head_page (made_head id blocks nodes)) First))
+
+-- ---- how many calls are made
+
+-- how many calls look for a store on a disk of this size: its size, and both heads where there are places for them
+abbrev pub looking_calls : ℕ → ℕ
+looking_calls size = if nat_lt size 2 then 1 else 3
+
+-- the calls that look for a store were made, and so many more, as far as the count goes
+pub record LooksAndMakes (told : Option DiskState) (more before after : ℕ) : Type 0 where
+  pub size : ℕ
+  pub told_size : (d : DiskState) → told ≡ Some d → size ≡ d.size
+  pub called : after ≡ min (before + (looking_calls size + more)) greatest_count
 
 -- ---- the answer
 

@@ -11,6 +11,7 @@ pub mod Mounting
 pub mod Mounts
 pub mod Namings
 pub mod NodesRead
+pub mod OneOf
 pub mod Readings
 pub mod Recovered
 pub mod RecoveredStores

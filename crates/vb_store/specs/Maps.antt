@@ -4,8 +4,7 @@ use Rattle.std.specs.List.{flat_map}
 use Rattle.vb_index.specs.declared.held.Held.{Held}
 use Rattle.vb_index.specs.Nodes.{refs_at}
 use Rattle.vb_inode.specs.declared.node.Node.{Node}
-use Rattle.vb_tree.specs.Refusals.{longest_file}
-use Rattle.vb_tree.specs.Trees.{map_pages_of}
+use Rattle.vb_tree.specs.Trees.{longest_file, map_pages_of}
 use Rattle.vb_store.specs.declared.map_page.MapPage.{MapPage}
 use Rattle.vb_store.specs.Metadata.{maps_of_node}
 

@@ -2,6 +2,8 @@
 use Rattle.std.specs.Prelude.{◌≡◌, ◌↔◌, ℕ, ◌+◌, ◌-◌, ◌*◌, ◌/◌, ◌<◌, ◌≤◌, ◌==◌, List, [], ◌∷◌, ◌++◌, length, replicate, map, count_by, Option, Some, None, unwrap_or}
 use Rattle.std.specs.List.{All, Contains, flat_map}
 use Rattle.vb_block.specs.declared.digest.Ref.{Ref}
+use Rattle.vb_geometry.specs.Layout as geometry
+use Rattle.vb_geometry.specs.Layout.{page_limit}
 use Rattle.vb_head.specs.declared.head.Head.{Head}
 use Rattle.vb_head.specs.declared.head.State.TheVariants.{Closed}
 use Rattle.vb_head.specs.Heads.{IsInRange}
@@ -20,11 +22,11 @@ pub record ViewState : Type 0 where
 
 -- the first data place of a store
 abbrev pub data_start : Head → ℕ
-data_start head = 2 + 2 * head.nodes
+data_start head = geometry.data_start head.nodes
 
 -- what a store's tree may take: half of the data places, and all nodes
 abbrev pub limits_of : Head → Limits
-limits_of head = record { pages = (head.blocks - 2 - 2 * head.nodes) / 2; nodes = head.nodes }
+limits_of head = record { pages = page_limit head.blocks head.nodes; nodes = head.nodes }
 
 -- the places that references name
 abbrev pub places_of : List Ref → List ℕ

@@ -15,9 +15,9 @@ pub fn a_mount_leaves_a_clear_disk()
         → (step : RecoversTo begun before after d new) → EachMoment IsClear d step.next }
 {}
 
-/// A sync leaves what a crash could have left that picks every last candidate, but for the count of syncs. So it
-/// leaves a clear disk clear.
+/// A sync leaves what a crash could have left that picks every last candidate, but that it notes the writes that it
+/// covered. So it leaves a clear disk clear.
 pub fn a_sync_leaves_a_clear_disk()
-    ensures picked { (d : DiskState) → MayCrashTo d (record (synced d) { syncs = d.syncs }) }
+    ensures picked { (d : DiskState) → MayCrashTo d (record (synced d) { synced_at = d.synced_at }) }
     ensures clear { (d : DiskState) → IsClear d → IsClear (synced d) }
 {}

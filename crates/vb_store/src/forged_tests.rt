@@ -101,7 +101,7 @@ fn put_map(
 
 // A fresh store of 42 places and 16 nodes, with map pages at 34, 36, 37 and 38.
 fn fresh_disk(alloc: Global) -> Result<MemoryDisk, Fail> {
-    let mut disk = MemoryDisk::new(alloc, 0);
+    let mut disk = MemoryDisk::new(alloc, 0)?;
     format(alloc, &mut disk, FolderId::of([7; 16]), 42, 16)?;
     put_map(alloc, &mut disk, 34, 35, 0)?;
     put_map(alloc, &mut disk, 36, 33, 0)?;
@@ -226,7 +226,7 @@ fn noise_is_damage_where_it_is_read(rt: HostRuntime) -> Result<(), Fail> {
     );
     assert!(rt; is_map);
     assert_eq!(rt; noise_refused(alloc, &[])?, None);
-    let blank = MemoryDisk::new(alloc, 42);
+    let blank = MemoryDisk::new(alloc, 42)?;
     assert_eq!(rt;
         refusal_of(alloc, blank).0,
         Some(RecoverError::NotAStore { place: 0 })

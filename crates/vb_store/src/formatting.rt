@@ -1,11 +1,12 @@
 // Makes a disk an empty store.
-ghost use Rattle.std.specs.Prelude.{◌≡◌, ◌∷◌, [], ◌<◌, ◌≤◌, Some, IsSome, IfOk, OnOk};
-ghost use Rattle.vb_disk.specs.Causes.{HasCause};
+ghost use Rattle.std.specs.Prelude.{◌≡◌, ◌+◌, ◌∷◌, [], ◌<◌, ◌≤◌, min, Some, IsSome, IfOk, OnOk};
+ghost use Rattle.vb_cause.specs.Causes.{HasCause, UsesFailures};
+ghost use Rattle.vb_cause.specs.Faults.{counted, greatest_count};
 ghost use Rattle.vb_disk.specs.States.{DiskState, Write, Sync, read_at};
 ghost use Rattle.vb_head.specs.Heads.{IsInRange, head_page, head_read};
 ghost use Rattle.vb_journal.specs.declared.commit_stage.Turn.TheVariants.{First};
 ghost use Rattle.vb_journal.specs.Calls.{turn_calls};
-ghost use Rattle.vb_store.specs.Formats.{format_calls, is_store, store_place, AnswersFormat, CanFormat};
+ghost use Rattle.vb_store.specs.Formats.{format_calls, is_store, store_place, AnswersFormat, CanFormat, LooksAndMakes};
 ghost use Rattle.vb_store.specs.Runs.{MakesAll};
 
 use crate::FormatError;
@@ -34,6 +35,10 @@ pub fn format<D: Disk>(
         → D.told disk.new ≡ D.told disk.old }
     ensures seen { OnOk result (D.seen disk.new ≡ blocks) }
     ensures cause { HasCause FormatError.DiskFault (D.faults disk.old) (D.faults disk.new) result }
+    ensures left { UsesFailures FormatError.DiskFault (D.failures_left disk.old) (D.failures_left disk.new) result }
+
+    // A size, both heads where there are places for them, and its calls.
+    ensures called { OnOk result (LooksAndMakes (D.told disk.old) (nodes + 10) (D.calls disk.old) (D.calls disk.new)) }
 {
     if let Some(place) = store_place(alloc, disk)? {
         return Err(FormatError::Formatted { place });
@@ -54,6 +59,8 @@ fn make_store<D: Disk>(
     ensures makes { MakesAll (format_calls id blocks nodes) (D.told disk.old) (D.told disk.new) result }
     ensures seen { OnOk result (D.seen disk.new ≡ blocks) }
     ensures cause { HasCause DiskError.Failed (D.faults disk.old) (D.faults disk.new) result }
+    ensures left { UsesFailures DiskError.Failed (D.failures_left disk.old) (D.failures_left disk.new) result }
+    ensures called { OnOk result (D.calls disk.new ≡ min (D.calls disk.old + (nodes + 10)) greatest_count) }
 {
     let making = Head {
         id,
@@ -82,6 +89,8 @@ fn write_heads<D: Disk>(alloc: Global, disk: &mut D, head: &Head) -> Result<(), 
     ensures makes { MakesAll (turn_calls (head_page head.now) First) (D.told disk.old) (D.told disk.new) result }
     ensures seen { D.seen disk.new ≡ D.seen disk.old }
     ensures cause { HasCause DiskError.Failed (D.faults disk.old) (D.faults disk.new) result }
+    ensures left { UsesFailures DiskError.Failed (D.failures_left disk.old) (D.failures_left disk.new) result }
+    ensures called { OnOk result (D.calls disk.new ≡ min (D.calls disk.old + 4) greatest_count) }
 {
     let page = write_head(alloc, head)?;
     write_synced(disk, 0, &page)?;
@@ -94,6 +103,8 @@ fn write_synced<D: Disk>(disk: &mut D, place: u32, page: &Page) -> Result<(), Di
     ensures makes { MakesAll (Write place page.now ∷ Sync ∷ []) (D.told disk.old) (D.told disk.new) result }
     ensures seen { D.seen disk.new ≡ D.seen disk.old }
     ensures cause { HasCause DiskError.Failed (D.faults disk.old) (D.faults disk.new) result }
+    ensures left { UsesFailures DiskError.Failed (D.failures_left disk.old) (D.failures_left disk.new) result }
+    ensures called { OnOk result (D.calls disk.new ≡ min (D.calls disk.old + 2) greatest_count) }
 {
     disk.write(place, page)?;
     disk.sync()
@@ -104,6 +115,8 @@ fn store_place<D: Disk>(alloc: Global, disk: &mut D) -> Result<Option<u32>, Disk
     ensures found { (d : DiskState) → D.told disk.old ≡ Some d → IfOk result (λ found. found ≡ store_place d) }
     ensures told { D.told disk.new ≡ D.told disk.old }
     ensures cause { HasCause DiskError.Failed (D.faults disk.old) (D.faults disk.new) result }
+    ensures left { UsesFailures DiskError.Failed (D.failures_left disk.old) (D.failures_left disk.new) result }
+    ensures called { OnOk result (LooksAndMakes (D.told disk.old) 0 (D.calls disk.old) (D.calls disk.new)) }
 {
     if disk.size()? < 2 {
         return Ok(None);
@@ -127,6 +140,8 @@ fn is_store_at<D: Disk>(alloc: Global, disk: &mut D, place: u32) -> Result<bool,
     ensures told { D.told disk.new ≡ D.told disk.old }
     ensures seen { D.seen disk.new ≡ D.seen disk.old }
     ensures cause { HasCause DiskError.Failed (D.faults disk.old) (D.faults disk.new) result }
+    ensures left { UsesFailures DiskError.Failed (D.failures_left disk.old) (D.failures_left disk.new) result }
+    ensures called { OnOk result (D.calls disk.new ≡ counted (D.calls disk.old)) }
 {
     let mut page = Page::zero(alloc)?;
     disk.read(place, &mut page)?;

@@ -4,8 +4,12 @@
 mod clear_disks;
 mod clear_mounts;
 mod empty_stores;
+mod file_bytes;
 mod format_error;
 mod formatting;
+mod geometry;
+mod hurt_reads;
+mod known_views;
 mod map_page;
 mod map_reads;
 mod mount;
@@ -19,6 +23,7 @@ mod mount_stage;
 mod mount_steps;
 mod new_homes;
 mod node_blocks;
+mod one_of;
 mod recovered_stores;
 mod same_stores;
 mod surveys;
@@ -32,9 +37,18 @@ pub use empty_stores::{
     a_format_leaves_an_empty_store, an_empty_store_can_be_viewed, an_empty_store_is_shown,
     an_empty_store_recovers_the_empty_tree,
 };
+pub use file_bytes::what_is_read_is_what_the_pages_hold;
 pub use format_error::FormatError;
 pub use formatting::format;
+pub use hurt_reads::hurt_places_keep_the_metadata_or_are_found;
+pub use known_views::{
+    a_commit_recovers_the_old_view_or_the_new_one, a_format_leaves_the_empty_view,
+    a_store_at_rest_recovers_its_view,
+};
 pub use mount::Mount;
+pub use one_of::{
+    a_clear_disk_recovers_one_of_its_views, a_view_of_a_disk_stays, what_may_be_recovered_stays,
+};
 pub use recovered_stores::{
     each_crash_of_a_mount_leaves_the_metadata, homes_tell_what_the_blocks_told,
 };

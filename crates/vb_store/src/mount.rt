@@ -1,6 +1,7 @@
 // A mount: the recovery of a store's journal, and the reads of its nodes and map pages, one call of the disk at a time.
-ghost use Rattle.std.specs.Prelude.{◌≡◌, ◌≢◌, ◌≤◌, ℕ, List, Some, None, IfOk, IfErr, IsSome};
-ghost use Rattle.vb_disk.specs.Causes.{HasCause};
+ghost use Rattle.std.specs.Prelude.{is_some, ◌≡◌, ◌≢◌, ◌≤◌, ℕ, List, Some, None, IfOk, IfErr, IsSome};
+ghost use Rattle.vb_cause.specs.Causes.{HasCause, UsesFailures};
+ghost use Rattle.vb_steps.specs.Steps.{CallsOnce};
 ghost use Rattle.vb_disk.specs.States.{DiskState, IsDiskState};
 ghost use Rattle.vb_journal.specs.Recovering.{MakesCall, SeenStays};
 ghost use Rattle.vb_store.specs.Mounts.{blocks_of_mount, due_of_mount, mount_calls, mount_calls_left, mount_phase, ready_view, AnswersMount, HasMountEnded, IsAheadOfMount, IsMounting, MakesNext, MountsOn, MountStandsAfter};
@@ -78,6 +79,10 @@ impl<D: Disk> Mount<D> {
         ensures error { IfErr result (MountStandsAfter (mount_phase self.old) (mount_phase self.new)) }
         ensures again { (error : RecoverError) → HasMountEnded (mount_phase self.old) error → result ≡ Err error }
         ensures cause { HasCause RecoverError.DiskFault (D.faults self.old.disk) (D.faults self.new.disk) result }
+        ensures left { UsesFailures RecoverError.DiskFault (D.failures_left self.old.disk) (D.failures_left self.new.disk) result }
+
+        // It makes the call that is due and no other: none at the end, and for want of memory none or that one.
+        ensures called { CallsOnce RecoverError.Memory (is_some (due_of_mount (mount_phase self.old))) (D.calls self.old.disk) (D.calls self.new.disk) result }
         ensures differ { (place : ℕ) (kept found : List ℕ) → result ≡ Err (RecoverError.Damaged place kept found) → kept ≢ found }
         ensures seen { SeenStays (due_of_mount (mount_phase self.old)) (D.seen self.old.disk) (D.seen self.new.disk) }
         ensures blocks { blocks_of_mount (mount_phase self.new) ≤ D.seen self.new.disk }

@@ -1,7 +1,8 @@
 // The second half of a mount, which reads homes and map pages.
-ghost use Rattle.std.specs.Prelude.{◌≡◌, ◌≢◌, ◌≤◌, ℕ, List, Some, None, Err, IfErr, IfOk, OnOk};
+ghost use Rattle.std.specs.Prelude.{is_some, ◌≡◌, ◌≢◌, ◌≤◌, ℕ, List, Some, None, Err, IfErr, IfOk, OnOk};
 ghost use Rattle.std.specs.Option.{option_map};
-ghost use Rattle.vb_disk.specs.Causes.{HasCause};
+ghost use Rattle.vb_cause.specs.Causes.{HasCause, UsesFailures};
+ghost use Rattle.vb_steps.specs.Steps.{CallsOnce};
 ghost use Rattle.vb_disk.specs.States.{DiskState, read_at};
 ghost use Rattle.vb_journal.specs.Recovering.{MakesCall, ReadPlace, SeenStays};
 ghost use Rattle.vb_store.specs.MountStages.{blocks_of, due_place, rest_on, HasEnded, StandsAfter};
@@ -26,6 +27,8 @@ pub(crate) fn read_on<D: Disk>(alloc: Global, disk: &mut D, stage: MountStage) -
     ensures error { IfErr result.1 (MountStandsAfter (MountPhase.Reading stage) result.0) }
     ensures again { (error : RecoverError) → HasEnded stage error → result.1 ≡ Err error }
     ensures cause { HasCause RecoverError.DiskFault (D.faults disk.old) (D.faults disk.new) result.1 }
+    ensures left { UsesFailures RecoverError.DiskFault (D.failures_left disk.old) (D.failures_left disk.new) result.1 }
+    ensures called { CallsOnce RecoverError.Memory (is_some (option_map ReadPlace (due_place stage))) (D.calls disk.old) (D.calls disk.new) result.1 }
     ensures differ { (place : ℕ) (kept found : List ℕ) → result.1 ≡ Err (RecoverError.Damaged place kept found) → kept ≢ found }
     ensures seen { D.seen disk.new ≡ D.seen disk.old }
     ensures blocks { blocks_of_mount result.0 ≤ D.seen disk.new }
@@ -47,6 +50,8 @@ fn read_stage<D: Disk>(alloc: Global, disk: &mut D, stage: MountStage) -> Steppe
     ensures error { IfErr result.1 (StandsAfter stage result.0) }
     ensures again { (error : RecoverError) → HasEnded stage error → result.1 ≡ Err error }
     ensures cause { HasCause RecoverError.DiskFault (D.faults disk.old) (D.faults disk.new) result.1 }
+    ensures left { UsesFailures RecoverError.DiskFault (D.failures_left disk.old) (D.failures_left disk.new) result.1 }
+    ensures called { CallsOnce RecoverError.Memory (is_some (option_map ReadPlace (due_place stage))) (D.calls disk.old) (D.calls disk.new) result.1 }
     ensures differ { (place : ℕ) (kept found : List ℕ) → result.1 ≡ Err (RecoverError.Damaged place kept found) → kept ≢ found }
     ensures seen { D.seen disk.new ≡ D.seen disk.old }
     ensures blocks { blocks_of result.0 ≤ D.seen disk.new }

@@ -1,6 +1,7 @@
 // The calls of the disk with which a mount reads homes and map pages.
-ghost use Rattle.std.specs.Prelude.{◌≡◌, ◌≢◌, ◌+◌, ◌<◌, ◌≤◌, ℕ, List, length, Some, Err, IfErr, IfOk, OnOk};
-ghost use Rattle.vb_disk.specs.Causes.{HasCause};
+ghost use Rattle.std.specs.Prelude.{true, ◌≡◌, ◌≢◌, ◌+◌, ◌<◌, ◌≤◌, ℕ, List, length, Some, Err, IfErr, IfOk, OnOk};
+ghost use Rattle.vb_cause.specs.Causes.{HasCause, UsesFailures};
+ghost use Rattle.vb_steps.specs.Steps.{CallsOnce};
 ghost use Rattle.vb_disk.specs.States.{DiskState, read_at};
 ghost use Rattle.vb_store.specs.MountLists.{ComesAfter, ReadsFirst};
 ghost use Rattle.vb_store.specs.MountStages.{blocks_of, rest_on, StandsAfter};
@@ -21,6 +22,8 @@ fn read_page<D: Disk>(alloc: Global, disk: &mut D, place: u32) -> Result<Page, D
     ensures told { D.told disk.new ≡ D.told disk.old }
     ensures seen { D.seen disk.new ≡ D.seen disk.old }
     ensures cause { HasCause DiskError.Failed (D.faults disk.old) (D.faults disk.new) result }
+    ensures left { UsesFailures DiskError.Failed (D.failures_left disk.old) (D.failures_left disk.new) result }
+    ensures called { CallsOnce DiskError.Memory true (D.calls disk.old) (D.calls disk.new) result }
 {
     let mut page = Page::zero(alloc)?;
     disk.read(place, &mut page)?;
@@ -39,6 +42,8 @@ pub(crate) fn read_again<D: Disk>(alloc: Global, disk: &mut D, whole: Whole) -> 
     ensures differ { (place : ℕ) (kept found : List ℕ) → result.1 ≡ Err (RecoverError.Damaged place kept found) → kept ≢ found }
     ensures seen { D.seen disk.new ≡ D.seen disk.old }
     ensures cause { HasCause RecoverError.DiskFault (D.faults disk.old) (D.faults disk.new) result.1 }
+    ensures left { UsesFailures RecoverError.DiskFault (D.failures_left disk.old) (D.failures_left disk.new) result.1 }
+    ensures called { CallsOnce RecoverError.Memory true (D.calls disk.old) (D.calls disk.new) result.1 }
 {
     let place = whole.place;
     let answer = match read_page(alloc, disk, place) {
@@ -64,6 +69,8 @@ pub(crate) fn read_home<D: Disk>(alloc: Global, disk: &mut D, homes: Homes) -> S
     ensures blocks { blocks_of result.0 ≤ homes.head.blocks }
     ensures seen { D.seen disk.new ≡ D.seen disk.old }
     ensures cause { HasCause RecoverError.DiskFault (D.faults disk.old) (D.faults disk.new) result.1 }
+    ensures left { UsesFailures RecoverError.DiskFault (D.failures_left disk.old) (D.failures_left disk.new) result.1 }
+    ensures called { CallsOnce RecoverError.Memory true (D.calls disk.old) (D.calls disk.new) result.1 }
 {
     let place = 2 + homes.nodes.len() as u32;
     match read_page(alloc, disk, place) {
@@ -88,6 +95,8 @@ pub(crate) fn read_map<D: Disk>(alloc: Global, disk: &mut D, claimed: Claimed) -
     ensures blocks { blocks_of result.0 ≤ claimed.tree.head.blocks }
     ensures seen { D.seen disk.new ≡ D.seen disk.old }
     ensures cause { HasCause RecoverError.DiskFault (D.faults disk.old) (D.faults disk.new) result.1 }
+    ensures left { UsesFailures RecoverError.DiskFault (D.failures_left disk.old) (D.failures_left disk.new) result.1 }
+    ensures called { CallsOnce RecoverError.Memory true (D.calls disk.old) (D.calls disk.new) result.1 }
 {
     let place = claimed.map.reference.place;
     match read_page(alloc, disk, place) {

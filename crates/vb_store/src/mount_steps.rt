@@ -1,6 +1,7 @@
 // The steps of a mount: those of its recovery, and then those that read homes and map pages.
-ghost use Rattle.std.specs.Prelude.{◌≡◌, ◌≢◌, ◌≤◌, ℕ, List, [], Some, Err, true, false, vec_len, IfErr, IfOk, IfSome, IsSome};
-ghost use Rattle.vb_disk.specs.Causes.{HasCause};
+ghost use Rattle.std.specs.Prelude.{is_some, ◌≡◌, ◌≢◌, ◌≤◌, ℕ, List, [], Some, Err, true, false, vec_len, IfErr, IfOk, IfSome, IsSome};
+ghost use Rattle.vb_cause.specs.Causes.{HasCause, UsesFailures};
+ghost use Rattle.vb_steps.specs.Steps.{CallsOnce};
 ghost use Rattle.vb_disk.specs.States.{DiskState};
 ghost use Rattle.vb_head.specs.Heads.{IsHead};
 ghost use Rattle.vb_journal.specs.Recovering.{due_of, MakesCall, SeenStays};
@@ -32,6 +33,8 @@ pub(crate) fn step_from<D: Disk>(alloc: Global, disk: &mut D, phase: MountPhase)
     ensures error { IfErr result.1 (MountStandsAfter phase result.0) }
     ensures again { (error : RecoverError) → HasMountEnded phase error → result.1 ≡ Err error }
     ensures cause { HasCause RecoverError.DiskFault (D.faults disk.old) (D.faults disk.new) result.1 }
+    ensures left { UsesFailures RecoverError.DiskFault (D.failures_left disk.old) (D.failures_left disk.new) result.1 }
+    ensures called { CallsOnce RecoverError.Memory (is_some (due_of_mount phase)) (D.calls disk.old) (D.calls disk.new) result.1 }
     ensures differ { (place : ℕ) (kept found : List ℕ) → result.1 ≡ Err (RecoverError.Damaged place kept found) → kept ≢ found }
     ensures seen { SeenStays (due_of_mount phase) (D.seen disk.old) (D.seen disk.new) }
     ensures blocks { blocks_of_mount result.0 ≤ D.seen disk.new }
@@ -53,6 +56,8 @@ fn recover_on<D: Disk>(alloc: Global, disk: &mut D, journal: JournalPhase) -> Mo
     ensures ahead { IfOk result.1 (λ ahead. IsAheadOfMount ahead result.0) }
     ensures error { IfErr result.1 (MountStandsAfter (MountPhase.Recovering journal) result.0) }
     ensures cause { HasCause RecoverError.DiskFault (D.faults disk.old) (D.faults disk.new) result.1 }
+    ensures left { UsesFailures RecoverError.DiskFault (D.failures_left disk.old) (D.failures_left disk.new) result.1 }
+    ensures called { CallsOnce RecoverError.Memory (is_some (due_of (recovery_stage journal.recover))) (D.calls disk.old) (D.calls disk.new) result.1 }
     ensures differ { (place : ℕ) (kept found : List ℕ) → result.1 ≡ Err (RecoverError.Damaged place kept found) → kept ≢ found }
     ensures seen { SeenStays (due_of (recovery_stage journal.recover)) (D.seen disk.old) (D.seen disk.new) }
     ensures blocks { blocks_of_mount result.0 ≤ D.seen disk.new }

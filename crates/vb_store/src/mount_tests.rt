@@ -9,7 +9,7 @@ use vb_head::HeadRead;
 
 // An empty store whose first head reads as noise.
 fn hurt_disk(alloc: Global) -> Result<MemoryDisk, Fail> {
-    let mut disk = MemoryDisk::new(alloc, 0);
+    let mut disk = MemoryDisk::new(alloc, 0)?;
     format_small(alloc, &mut disk)?;
     let mut noise = Page::zero(alloc)?;
     noise.fill(0xEE);
@@ -20,7 +20,7 @@ fn hurt_disk(alloc: Global) -> Result<MemoryDisk, Fail> {
 #[test]
 fn a_new_store_is_mounted(rt: HostRuntime) -> Result<(), Fail> {
     let alloc = rt.alloc();
-    let mut disk = MemoryDisk::new(alloc, 0);
+    let mut disk = MemoryDisk::new(alloc, 0)?;
     format_small(alloc, &mut disk)?;
     let mounted = mount_for(alloc, disk, 100).ok().ok_or("not mounted")?;
     assert_eq!(rt; mounted.view.head(), small_head());
@@ -80,7 +80,7 @@ fn a_failed_call_of_a_mount_is_made_again(rt: HostRuntime) -> Result<(), Fail> {
 #[test]
 fn a_mount_lends_its_disk(rt: HostRuntime) -> Result<(), Fail> {
     let alloc = rt.alloc();
-    let mut disk = MemoryDisk::new(alloc, 0);
+    let mut disk = MemoryDisk::new(alloc, 0)?;
     format_small(alloc, &mut disk)?;
     let mut mount = Mount::start(alloc, disk);
     let page = page_at(alloc, mount.disk(), 2)?;

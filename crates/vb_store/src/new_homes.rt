@@ -1,6 +1,7 @@
 // The homes of the nodes of an empty store: the root at slot 0, and free nodes.
-ghost use Rattle.std.specs.Prelude.{◌≡◌, ◌+◌, ◌∷◌, [], ◌<◌, ◌≤◌, IfOk};
-ghost use Rattle.vb_disk.specs.Causes.{HasCause};
+ghost use Rattle.std.specs.Prelude.{◌≡◌, ◌+◌, ◌∷◌, [], ◌<◌, ◌≤◌, min, IfOk, OnOk};
+ghost use Rattle.vb_cause.specs.Causes.{HasCause, UsesFailures};
+ghost use Rattle.vb_cause.specs.Faults.{counted, greatest_count};
 ghost use Rattle.vb_disk.specs.States.{Write};
 ghost use Rattle.vb_inode.specs.Layout.{node_page};
 ghost use Rattle.vb_store.specs.Formats.{empty_node, home_calls};
@@ -19,6 +20,8 @@ pub(crate) fn write_homes<D: Disk>(alloc: Global, disk: &mut D, nodes: u32) -> R
     ensures makes { MakesAll (home_calls nodes) (D.told disk.old) (D.told disk.new) result }
     ensures seen { D.seen disk.new ≡ D.seen disk.old }
     ensures cause { HasCause DiskError.Failed (D.faults disk.old) (D.faults disk.new) result }
+    ensures left { UsesFailures DiskError.Failed (D.failures_left disk.old) (D.failures_left disk.new) result }
+    ensures called { 0 < nodes → OnOk result (D.calls disk.new ≡ min (D.calls disk.old + nodes) greatest_count) }
 {
     for slot in 0..nodes {
         write_home(alloc, disk, slot)?;
@@ -33,6 +36,8 @@ fn write_home<D: Disk>(alloc: Global, disk: &mut D, slot: u32) -> Result<(), Dis
     ensures makes { MakesAll (Write (2 + slot) (node_page (empty_node slot)) ∷ []) (D.told disk.old) (D.told disk.new) result }
     ensures seen { D.seen disk.new ≡ D.seen disk.old }
     ensures cause { HasCause DiskError.Failed (D.faults disk.old) (D.faults disk.new) result }
+    ensures left { UsesFailures DiskError.Failed (D.failures_left disk.old) (D.failures_left disk.new) result }
+    ensures called { OnOk result (D.calls disk.new ≡ counted (D.calls disk.old)) }
 {
     let page = home_page(alloc, slot)?;
     disk.write(2 + slot, &page)

@@ -9,6 +9,7 @@ ghost use Rattle.vb_store.specs.NodesRead.{AreRead};
 ghost use Rattle.vb_store.specs.Surveys.{IsSurveyed};
 ghost use Rattle.vb_store.specs.Views.{limits_of};
 
+use crate::geometry::{data_start_of, geometry_of};
 use crate::map_page::{MapPage, maps_of_nodes};
 use crate::node_blocks::block_place;
 use std::alloc::Global;
@@ -47,7 +48,7 @@ pub(crate) fn survey_of(
     let Ok(maps) = maps_of_nodes(alloc, nodes) else {
         return Err(RecoverError::Memory);
     };
-    let start = 2 + 2 * head.nodes;
+    let start = data_start_of(head);
     let Ok(claims) = Claims::new(alloc, start, head.blocks) else {
         return Err(RecoverError::Memory);
     };
@@ -73,7 +74,7 @@ fn tree_of(
     ensures { IsDue (index_or_refusal place (block_place slots.now head.now.nodes) (index_from (limits_of head.now) nodes.now)) result }
 {
     let limits = Limits {
-        pages: u64::from(head.blocks - 2 - 2 * head.nodes) / 2,
+        pages: u64::from(geometry_of(head).page_limit()),
         nodes: head.nodes,
     };
     match index_of(alloc, limits, nodes) {

@@ -91,7 +91,7 @@ pub(crate) fn put_page(disk: &mut MemoryDisk, place: u32, page: &Page) -> Result
 #[test]
 fn a_new_disk_becomes_an_empty_store(rt: HostRuntime) -> Result<(), Fail> {
     let alloc = rt.alloc();
-    let mut disk = MemoryDisk::new(alloc, 0);
+    let mut disk = MemoryDisk::new(alloc, 0)?;
     assert_eq!(rt; format_small(alloc, &mut disk), Ok(()));
     let head = small_head();
     assert_eq!(rt; disk.size()?, 38);
@@ -107,7 +107,7 @@ fn a_new_disk_becomes_an_empty_store(rt: HostRuntime) -> Result<(), Fail> {
 #[test]
 fn a_failed_call_stops_a_format(rt: HostRuntime) -> Result<(), Fail> {
     let alloc = rt.alloc();
-    let mut disk = MemoryDisk::new(alloc, 0);
+    let mut disk = MemoryDisk::new(alloc, 0)?;
     disk.fail_call(20, false)?;
     assert_eq!(rt; format_small(alloc, &mut disk), Err(FormatError::DiskFault));
     let is_rebuilding = matches!(
@@ -133,7 +133,7 @@ fn an_empty_store_is_viewed(rt: HostRuntime) -> Result<(), Fail> {
     assert_eq!(rt; view.head(), small_head());
     assert_eq!(rt; view.index().count(), 1);
     let mounted = Mounted {
-        disk: MemoryDisk::new(alloc, 38),
+        disk: MemoryDisk::new(alloc, 38)?,
         view,
     };
     assert_eq!(rt; mounted.view.index().pages(), 0);

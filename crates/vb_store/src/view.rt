@@ -2,6 +2,7 @@
 ghost use Rattle.std.specs.Prelude.{◌≡◌, length, IfOk};
 ghost use Rattle.vb_store.specs.Views.{CanView, IsSpaceOf};
 
+use crate::geometry::data_start_of;
 use crate::used_places::used_places;
 use std::alloc::{AllocError, Global};
 use std::marker::Model;
@@ -83,7 +84,7 @@ pub(crate) fn space_of(alloc: Global, head: &Head, index: &Index) -> Result<Spac
     ensures { IfOk result (λ space. IsSpaceOf head.now index.now space) }
 {
     let used = used_places(alloc, index, head.nodes)?;
-    Space::of(alloc, 2 + 2 * head.nodes, head.blocks, &used)
+    Space::of(alloc, data_start_of(head), head.blocks, &used)
 }
 
 /// A disk, and the view of the store that stands on it.

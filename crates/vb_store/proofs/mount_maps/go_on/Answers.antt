@@ -1,4 +1,7 @@
-use Rattle.std.proofs.Common.{ℕ, List, sym, ap, ◌∙◌, arith}
+use Rattle.std.proofs.Common.{ℕ, List, sym, ap, subst, ◌∙◌, arith}
+use Rattle.std.proofs.lemmas.List.Elements.{All-get_or}
+use Rattle.vb_store.specs.declared.map_page.MapPage.{MapPage}
+use Rattle.vb_store.specs.Maps.{IsOfFile}
 use Rattle.vb_store.specs.Metadata.{block_place}
 use Rattle.vb_store.specs.MountStages.{rest_of}
 use Rattle.vb_store.proofs.PlacesLeft.{places-next}
@@ -26,3 +29,9 @@ invariant_of-tree-clause-once c =
 
 pub invariant_of-result-clause-blanks : goal.invariant_of-result-clause-blanks
 invariant_of-result-clause-blanks c = AreBlanksNamed-next c.args.tree.index.nodes c.args.tree.maps.items c.args.tree.next c.index-map.result.now (omega arith) c.index-map.ensures c.requires.blanks
+
+pub invariant_of-result-clause-file : goal.invariant_of-result-clause-file
+invariant_of-result-clause-file c =
+    let t = c.args.tree in
+    subst (λ (m : MapPage). IsOfFile t.index.nodes m) (sym c.index-map.ensures)
+    (All-get_or (IsOfFile t.index.nodes) t.maps.items t.next c.index-map.result.now (omega arith) t.files)

@@ -6,7 +6,7 @@ use Rattle.vb_store.specs.declared.mount_phase.MountPhase.TheVariants.{Reading}
 use Rattle.vb_store.specs.MountStages.{due_place}
 use Rattle.vb_store.specs.Mounts.{MakesNext, mount_calls_left}
 use Rattle.vb_store.proofs.HandedOver.{reading-mounts}
-use Rattle.vb_store.proofs.MountReadings.{reading-list}
+use Rattle.vb_store.proofs.MountReadings.{reading-called, reading-error, reading-left, reading-list}
 use Rattle.vb_store.proofs.mount_reading.read_on.Goals as goal
 
 pub returns-clause-list : goal.returns-clause-list
@@ -22,3 +22,18 @@ pub returns-clause-crash : goal.returns-clause-crash
 returns-clause-crash g c begun d told is =
     let read = c.read_stage-stage in
     reading-mounts c.args.stage read.result.0 read.result.1 c.close.result.0 c.close.result.1 begun d (g.D.Disk.told read.new.disk) (read.ensures.told ∙ told) is (read.ensures.rest d told) (read.ensures.list d told) c.close.ensures
+
+pub returns-clause-left : goal.returns-clause-left
+returns-clause-left g c =
+    let read = c.read_stage-stage in
+    reading-left read.result.0 read.result.1 c.close.result.0 c.close.result.1 (g.D.Disk.failures_left c.args.disk.now) (g.D.Disk.failures_left read.new.disk) c.close.ensures read.ensures.left
+
+pub returns-clause-called : goal.returns-clause-called
+returns-clause-called g c =
+    let read = c.read_stage-stage in
+    reading-called read.result.0 read.result.1 c.close.result.0 c.close.result.1 _ (g.D.Disk.calls c.args.disk.now) (g.D.Disk.calls read.new.disk) c.close.ensures read.ensures.called
+
+pub returns-clause-error : goal.returns-clause-error
+returns-clause-error g c =
+    let read = c.read_stage-stage in
+    reading-error c.args.stage read.result.0 read.result.1 c.close.result.0 c.close.result.1 c.close.ensures read.ensures.after read.ensures.error

@@ -1,4 +1,5 @@
-use Rattle.std.proofs.Common.{List, Some, refl, sym, ap, ◌∙◌, arith}
+use Rattle.std.proofs.Common.{List, Some, refl, sym, ap, ◌∙◌, inl, inr, arith}
+use Rattle.std.proofs.lemmas.Bool.{cases_lt}
 use Rattle.std.proofs.lemmas.Result.{err_from_is_err_and}
 use Rattle.vb_disk.specs.States.{DiskCall, after_calls}
 use Rattle.vb_store.specs.Formats.{home_calls}
@@ -12,6 +13,10 @@ loop-slot-init g c = record {
   untold = λ untold. untold;
   seen = refl;
   faults = omega arith;
+  left_told = λ some. some;
+  left_kept = λ some. omega arith;
+  none = λ zero. refl;
+  some = λ more. absurd (omega (arith, more));
 }
 
 pub returns-in_err-write_home-clause-makes : goal.returns-in_err-write_home-clause-makes
@@ -28,4 +33,16 @@ loop-slot-preserved g c = record {
   untold = λ untold. c.write_home.ensures.makes.untold (c.loop-slot.invariant.untold untold);
   seen = c.write_home.ensures.seen ∙ c.loop-slot.invariant.seen;
   faults = omega arith;
+  left_told = λ some. c.write_home.ensures.left.told (c.loop-slot.invariant.left_told some);
+  left_kept = λ some.
+      let before = c.loop-slot.invariant.left_kept some in
+      let here = c.write_home.ensures.left.kept (c.loop-slot.invariant.left_told some) in
+      omega (arith, before, here);
+  none = λ zero. absurd (omega (arith, zero));
+  some = λ more.
+      let one = c.in_ok-write_home.ensures.called in
+      elim (cases_lt 0 c.loop-slot.slot) [
+        | inl later ↦ let before = c.loop-slot.invariant.some later in omega (arith, before, one)
+        | inr first ↦ let before = c.loop-slot.invariant.none (omega (arith, first)) in omega (arith, before, one, first)
+      ];
 }

@@ -1,4 +1,4 @@
-use Rattle.std.proofs.Common.{◌≡◌, ◌/◌, Err, subst, arith}
+use Rattle.std.proofs.Common.{◌≡◌, Err, subst, arith}
 use Rattle.vb_nodes.specs.declared.errors.TableError.{TableError}
 use Rattle.vb_nodes.specs.declared.errors.TableError.TheVariants.{Wrong}
 use Rattle.vb_nodes.specs.Holdings.{IsIndexed, index_from}
@@ -16,6 +16,6 @@ index_of-requires-clause-limits c =
 
 pub refusal-requires-clause-slot : goal.refusal-requires-clause-slot
 refusal-requires-clause-slot c = λ slot why is.
-    let limits : Limits = record { pages = c.from.result / 2; nodes = c.args.head.now.nodes } in
+    let limits : Limits = record { pages = c.from.result; nodes = c.args.head.now.nodes } in
     let wrong : index_from limits c.args.nodes.now ≡ Err (Wrong slot why) = subst (λ (e : TableError). IsIndexed (index_from limits c.args.nodes.now) (Err e)) is c.in-Err.ensures in
     omega (arith, index-wrong limits c.args.nodes.now slot why wrong, c.requires.all, c.requires.is.range.nodes_high)
