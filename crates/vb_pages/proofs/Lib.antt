@@ -1,0 +1,4 @@
+mod Keys
+mod RunLoops
+mod RunSteps
+mod Same
