@@ -1,0 +1,6 @@
+-- Between two glances the seat is back.
+use Rattle.vb_turn.specs.Turns.{IsBack}
+use Rattle.vb_turn.proofs.tests.watches.Given as goal
+
+abbrev pub invariant-loop : goal.invariant-loop
+invariant-loop g l = IsBack l.turn l.seat
