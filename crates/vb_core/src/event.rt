@@ -1,4 +1,5 @@
 // What can happen to a folder, and what each event answers.
+use thiserror::Error;
 use vb_tree::{Op, Reply};
 
 /// One call on a folder.
@@ -39,12 +40,15 @@ pub enum UploadStep {
 }
 
 /// Why a folder wasn't frozen.
-#[derive(Clone, Copy, Debug, PartialEq, Eq)]
+#[derive(Clone, Copy, Debug, PartialEq, Eq, Error)]
 pub enum FreezeError {
     /// The view of this epoch stands, or its commit isn't at rest.
+    #[error("the view of epoch {epoch} stands")]
     Busy { epoch: u64 },
     /// There is no epoch after this one.
+    #[error("there is no epoch after {epoch}, at sequence {sequence}")]
     Spent { epoch: u64, sequence: u64 },
+    #[error("no memory was found")]
     Memory,
 }
 

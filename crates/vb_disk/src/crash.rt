@@ -5,6 +5,7 @@ ghost use Rattle.vb_disk.specs.declared.crash.DamageRefused.TheVariants.{Memory 
 ghost use Rattle.vb_disk.specs.declared.crash.MissRefused.TheVariants.{Memory as MissMemory};
 
 use std::alloc::AllocError;
+use thiserror::Error;
 use vb_block::Page;
 
 /// Which candidate is left where nothing else is said.
@@ -31,34 +32,44 @@ pub struct Tear {
 }
 
 /// Why a crash is refused. The first reason is given: of the picks in their order, and then of the tears.
-#[derive(Clone, Copy, Debug, PartialEq, Eq)]
+#[derive(Clone, Copy, Debug, PartialEq, Eq, Error)]
 pub enum CrashRefused {
     /// The picked candidate isn't there.
+    #[error("place {place} has no such candidate")]
     NoSuchCandidate { place: u32 },
     /// A place with fewer than two candidates can't be torn.
+    #[error("place {place} has one candidate, and can't be torn")]
     NotOpen { place: u32 },
     /// A torn place can't read as this page.
+    #[error("place {place} can't read as this page")]
     NotAMiss { place: u32 },
+    #[error("no memory was found")]
     Memory,
 }
 
 /// Why damage is refused. The first reason is given.
-#[derive(Clone, Copy, Debug, PartialEq, Eq)]
+#[derive(Clone, Copy, Debug, PartialEq, Eq, Error)]
 pub enum DamageRefused {
     /// The place lies past the disk's end.
+    #[error("place {place} lies past the end")]
     NoSuchPlace { place: u32 },
     /// A damaged place can't read as this page.
+    #[error("place {place} can't read as this page")]
     NotAMiss { place: u32 },
+    #[error("no memory was found")]
     Memory,
 }
 
 /// Why no miss is given. The first reason is given.
-#[derive(Clone, Copy, Debug, PartialEq, Eq)]
+#[derive(Clone, Copy, Debug, PartialEq, Eq, Error)]
 pub enum MissRefused {
     /// The place lies past the disk's end.
+    #[error("place {place} lies past the end")]
     NoSuchPlace { place: u32 },
     /// None of the bytes 0xEE down to 0 gives a miss.
+    #[error("no page of one byte is a miss at place {place}")]
     AllTaken { place: u32 },
+    #[error("no memory was found")]
     Memory,
 }
 

@@ -6,13 +6,16 @@ ghost use Rattle.vb_disk.specs.Logs.{IsReadAt};
 ghost use Rattle.vb_disk.specs.declared.log_file.LogError.TheVariants.{Memory};
 
 use std::alloc::AllocError;
+use thiserror::Error;
 
 /// Why a call of a log failed.
-#[derive(Clone, Copy, Debug, PartialEq, Eq)]
+#[derive(Clone, Copy, Debug, PartialEq, Eq, Error)]
 pub enum LogError {
     /// The device failed, and counts a fault more.
+    #[error("the log failed")]
     Failed,
     /// No memory was found.
+    #[error("no memory was found")]
     Memory,
 }
 

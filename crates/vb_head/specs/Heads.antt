@@ -5,6 +5,8 @@ use Rattle.sha2.specs.Sha256.{sha256}
 use Rattle.vb_block.specs.declared.why.Why.{Why}
 use Rattle.vb_block.specs.declared.why.Why.TheVariants.{Blocks, Nodes, Space, Id, Sequence, Epoch, State as StateWhy, Count, Rest}
 use Rattle.vb_block.specs.Pages.{seal_of, sealed_part}
+use Rattle.vb_geometry.specs.declared.geometry.TheConstants.{LEAST_NODES, LEAST_PAGES, MOST_BLOCKS, MOST_NODES}
+use Rattle.vb_geometry.specs.Layout.{data_start}
 use Rattle.vb_head.specs.declared.head.Head.{Head}
 use Rattle.vb_head.specs.declared.head.HeadRead.{HeadRead}
 use Rattle.vb_head.specs.declared.head.HeadRead.TheVariants.{Good, Bad, Alien, Unsealed, Blank}
@@ -53,10 +55,10 @@ last_sequence Rebuilding = 2 ^ 63 + 1
 
 -- the fields are in their ranges
 pub record IsInRange (h : Head) : Type 0 where
-  pub blocks : h.blocks ≤ 262144
-  pub nodes_low : 16 ≤ h.nodes
-  pub nodes_high : h.nodes ≤ 65536
-  pub space : 2 + 2 * h.nodes + 4 ≤ h.blocks
+  pub blocks : h.blocks ≤ MOST_BLOCKS
+  pub nodes_low : LEAST_NODES ≤ h.nodes
+  pub nodes_high : h.nodes ≤ MOST_NODES
+  pub space : data_start h.nodes + 2 * LEAST_PAGES ≤ h.blocks
   pub id : are_zeros h.id ≡ false
   pub sequence_low : 0 < h.sequence
   pub sequence_high : h.sequence ≤ last_sequence h.state
@@ -95,7 +97,7 @@ is_opened f = f.state == 1
 
 -- whether a count of nodes is out of its range
 abbrev pub is_off_nodes : ℕ → Bool
-is_off_nodes nodes = nat_lt nodes 16 || nat_lt 65536 nodes
+is_off_nodes nodes = nat_lt nodes LEAST_NODES || nat_lt MOST_NODES nodes
 
 -- whether a sequence is out of its range
 abbrev pub is_off : ℕ → Bool → Bool
@@ -108,9 +110,9 @@ is_miscounted count nodes opened = if opened then nat_lt nodes count else not (c
 -- the first check that a head's fields fail
 abbrev pub fault_of : Fields → Option Why
 fault_of f =
-    refuse (nat_lt 262144 f.blocks) Blocks (
+    refuse (nat_lt MOST_BLOCKS f.blocks) Blocks (
     refuse (is_off_nodes f.nodes) Nodes (
-    refuse (nat_lt f.blocks (2 + 2 * f.nodes + 4)) Space (
+    refuse (nat_lt f.blocks (data_start f.nodes + 2 * LEAST_PAGES)) Space (
     refuse (are_zeros f.id) Id (
     refuse (is_off f.sequence (is_opened f)) Sequence (
     refuse (nat_le 9223372036854775808 f.epoch) Epoch (

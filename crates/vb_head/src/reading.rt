@@ -6,6 +6,7 @@ ghost use Rattle.vb_head.specs.Layout.{are_zeros, fields_of};
 
 use crate::{Head, HeadRead, State};
 use vb_block::{FolderId, Page, Why, due_seal, get_u32, get_u64, kept_seal};
+use vb_geometry::{HEADS, LEAST_NODES, LEAST_PAGES, MOST_BLOCKS, MOST_NODES};
 
 /// The text at the front of each head.
 pub(crate) const SIGNATURE: [u8; 8] = *b"ViewBox1";
@@ -80,13 +81,13 @@ fn fault_of(page: &Page) -> Option<Why>
 {
     let nodes = get_u32(page, 32);
     let is_opened = get_u32(page, 52) == 1;
-    if get_u32(page, 28) > 262_144 {
+    if get_u32(page, 28) > MOST_BLOCKS {
         return Some(Why::Blocks);
     }
     if is_off_nodes(nodes) {
         return Some(Why::Nodes);
     }
-    if get_u32(page, 28) < 2 + 2 * nodes + 4 {
+    if get_u32(page, 28) < HEADS + 2 * nodes + 2 * LEAST_PAGES {
         return Some(Why::Space);
     }
     if is_zero(&page.bytes()[12..28]) {
@@ -114,7 +115,7 @@ fn fault_of(page: &Page) -> Option<Why>
 fn is_off_nodes(nodes: u32) -> bool
     ensures { result ≡ is_off_nodes nodes }
 {
-    nodes < 16 || nodes > 65_536
+    nodes < LEAST_NODES || nodes > MOST_NODES
 }
 
 // Whether a sequence is out of its range: 0, or so great that the heads after it would find no greater one.

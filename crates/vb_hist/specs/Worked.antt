@@ -12,24 +12,27 @@ use Rattle.vb_hist.specs.declared.marks.Marks.{Marks}
 use Rattle.vb_hist.specs.Histories.{surviving}
 use Rattle.vb_hist.specs.Legal.{IsLegal, Opening, folder_of, marks_of}
 
--- two kinds of stores
+-- the limits of a small store
 abbrev pub small : Limits
 small = record { pages = 8; nodes = 16 }
 
+-- the limits of a larger one
 abbrev pub large : Limits
 large = record { pages = 64; nodes = 32 }
 
--- an empty file of a name of one byte, and the call that makes it
+-- an empty file of a name of one byte
 abbrev pub file : ℕ → TreeEntry
 file name = record { path = (name ∷ []) ∷ []; kind = File; bytes = [] }
 
+-- the call that makes such a file
 abbrev pub makes : ℕ → Entry
 makes name = Call 1 (Create ((name ∷ []) ∷ [])) Done
 
--- a new folder, and one whose cloud shows epoch 3 where its store is at 5
+-- a new folder
 abbrev pub new_folder : Opening
 new_folder = record { limits = small; base = []; start = 0; published = 0; published_tree = []; disk_faults = 0; link_faults = 0 }
 
+-- a folder whose store is at epoch 5 where its cloud shows 3
 abbrev pub ahead_of_cloud : Opening
 ahead_of_cloud = record { limits = small; base = file 97 ∷ []; start = 5; published = 3; published_tree = []; disk_faults = 0; link_faults = 0 }
 

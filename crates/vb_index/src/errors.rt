@@ -3,14 +3,17 @@ ghost use Rattle.std.specs.Prelude.{◌≡◌};
 ghost use Rattle.vb_index.specs.declared.errors.IndexError.TheVariants as index_errors;
 
 use std::alloc::AllocError;
+use thiserror::Error;
 use vb_tree::Refusal;
 
 /// Why a call of an index changed nothing.
-#[derive(Clone, Copy, Debug, PartialEq, Eq)]
+#[derive(Clone, Copy, Debug, PartialEq, Eq, Error)]
 pub enum IndexError {
     /// The tree refuses the operation, for this reason.
+    #[error("the tree refuses: {0}")]
     Refused(Refusal),
     /// No memory was found.
+    #[error("no memory was found")]
     Memory,
 }
 

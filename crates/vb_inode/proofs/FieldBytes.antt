@@ -1,8 +1,9 @@
 -- The bytes of a node block's fields: how many there are, and that they tell the fields apart.
 use Rattle.std.proofs.Common.{◌≡◌, ℕ, List, [], ◌++◌, length, refl, sym, ap, ◌∙◌, arith}
 use Rattle.std.proofs.lemmas.List.{append-nil, append_assoc, length-append}
-use Rattle.vb_inode.specs.Layout.{four_bytes, eight_bytes, Fields, FitsBlock, sealed_bytes}
-use Rattle.vb_inode.proofs.Numbers.{length-four_bytes, length-eight_bytes, fronts_same, four_bytes_same, eight_bytes_same}
+use Rattle.vb_block.specs.Numbers.{four_bytes, eight_bytes}
+use Rattle.vb_inode.specs.Layout.{Fields, FitsBlock, sealed_bytes}
+use Rattle.vb_block.proofs.Numbers.{length-four_bytes, length-eight_bytes, fronts_same, four_bytes_same, eight_bytes_same}
 
 -- what follows each field
 abbrev pub after_8 : Fields → List ℕ

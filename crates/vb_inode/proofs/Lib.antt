@@ -1,5 +1,4 @@
 pub mod Zeros
-pub mod Numbers
 pub mod RefBytes
 pub mod FieldBytes
 pub mod Checked

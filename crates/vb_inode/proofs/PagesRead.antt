@@ -18,10 +18,11 @@ use Rattle.vb_inode.specs.declared.node.NodeKind.{NodeKind}
 use Rattle.vb_inode.specs.declared.errors.NodeError.{NodeError}
 use Rattle.vb_inode.specs.declared.errors.NodeError.TheVariants.{Unsealed, Wrong}
 use Rattle.vb_inode.specs.declared.errors.MapError.TheVariants.{Wrong as WrongMap}
-use Rattle.vb_inode.specs.Layout.{four_bytes, eight_bytes, fields_from, map_page, node_page, ref_bytes, ref_in, refs_in, fields_in, number4_at, number8_at, sealed_bytes, AreRefs, Fields, FitsBlock}
+use Rattle.vb_block.specs.Numbers.{four_bytes, eight_bytes}
+use Rattle.vb_inode.specs.Layout.{fields_from, map_page, node_page, ref_bytes, ref_in, refs_in, fields_in, number4_at, number8_at, sealed_bytes, AreRefs, Fields, FitsBlock}
 use Rattle.vb_inode.specs.Checks.{are_zeros, checked}
 use Rattle.vb_inode.specs.Reading.{map_read, node_by, node_from, node_read, Answers, AnswersBy, AreRefsIn, Holds, IsMadeOf, IsNodeOf, IsNodeRead}
-use Rattle.vb_inode.proofs.Numbers.{length-four_bytes, length-eight_bytes}
+use Rattle.vb_block.proofs.Numbers.{length-four_bytes, length-eight_bytes}
 use Rattle.vb_inode.proofs.Zeros.{take-padded}
 use Rattle.vb_inode.proofs.RefBytes.{map_page-zeros, ref_same}
 use Rattle.vb_inode.proofs.FieldBytes.{after_1, after_2, after_3, after_4, after_5, after_6, after_7, after_8, fields_same, sealed_bytes-parts}

@@ -3,11 +3,12 @@ use Rattle.std.proofs.Common.{◌≡◌, ℕ, suc, ◌-◌, ◌*◌, ◌<◌, �
 use Rattle.std.specs.List.{flat_map}
 use Rattle.std.proofs.lemmas.List.{length-append, take_at}
 use Rattle.vb_block.specs.declared.digest.Ref.{Ref}
-use Rattle.vb_inode.specs.Layout.{four_bytes, ref_bytes, map_page, padded, AreRefs}
+use Rattle.vb_block.specs.Numbers.{four_bytes}
+use Rattle.vb_inode.specs.Layout.{ref_bytes, map_page, padded, AreRefs}
 use Rattle.vb_inode.specs.Checks.{are_zeros}
 use Rattle.vb_inode.specs.Reading.{AreRefsIn}
 use Rattle.vb_inode.proofs.Zeros.{are_zeros-padded, padded-from_zeros}
-use Rattle.vb_inode.proofs.Numbers.{length-four_bytes, fronts_same, four_bytes_same}
+use Rattle.vb_block.proofs.Numbers.{length-four_bytes, fronts_same, four_bytes_same}
 
 abbrev made : ℕ → List ℕ → Ref
 made place digest = record { place = place; digest = digest }

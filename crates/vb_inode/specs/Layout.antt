@@ -1,19 +1,13 @@
 -- The layout of node blocks and map pages: their bytes, in the order of their fields.
 use Rattle.std.specs.Prelude.{◌≡◌, ℕ, zero, suc, ◌-◌, ◌<◌, ◌^◌, List, [], ◌∷◌, ◌++◌, length, take, drop, replicate}
 use Rattle.std.specs.List.{concat, flat_map, All}
-use Rattle.byteorder.specs.Endian.{little_bytes, little_number}
+use Rattle.byteorder.specs.Endian.{little_number}
 use Rattle.sha2.specs.Sha256.{sha256}
 use Rattle.vb_block.specs.declared.digest.Ref.{Ref}
+use Rattle.vb_block.specs.Numbers.{four_bytes, eight_bytes}
 use Rattle.vb_inode.specs.declared.node.Node.{Node}
 use Rattle.vb_inode.specs.declared.node.NodeKind.{NodeKind}
 use Rattle.vb_inode.specs.declared.node.NodeKind.TheVariants.{Free, Folder, File}
-
--- a number in four bytes, and one in eight, the lowest byte first
-unfoldable pub four_bytes : ℕ → List ℕ
-four_bytes n = little_bytes 4 n
-
-unfoldable pub eight_bytes : ℕ → List ℕ
-eight_bytes n = little_bytes 8 n
 
 -- the bytes, and then zeros up to a length
 abbrev pub padded : ℕ → List ℕ → List ℕ

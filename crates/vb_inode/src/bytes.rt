@@ -1,12 +1,13 @@
 // Reads values from the front of some bytes.
 ghost use Rattle.std.specs.Prelude.{◌≡◌, ◌+◌, ◌≤◌, ◌++◌, length, take, drop};
-ghost use Rattle.vb_inode.specs.Layout.{four_bytes, eight_bytes, ref_bytes};
+ghost use Rattle.vb_block.specs.Numbers.{four_bytes, eight_bytes};
+ghost use Rattle.vb_inode.specs.Layout.{ref_bytes};
 ghost use Rattle.vb_inode.specs.Checks.{are_zeros};
 
 use vb_block::{Digest, Ref};
 
 /// The number in the first four bytes, and the bytes after it.
-#[tactic(auto, unfolding(crate::specs::Layout::four_bytes))]
+#[tactic(auto, unfolding(vb_block::specs::Numbers::four_bytes))]
 pub(crate) fn split_u32(bytes: &[u8]) -> (u32, &[u8])
     requires { 4 ≤ length bytes.now }
     ensures parts { bytes.now ≡ four_bytes result.0 ++ result.1.now }
@@ -18,7 +19,7 @@ pub(crate) fn split_u32(bytes: &[u8]) -> (u32, &[u8])
 }
 
 /// The number in the first eight bytes, and the bytes after it.
-#[tactic(auto, unfolding(crate::specs::Layout::eight_bytes))]
+#[tactic(auto, unfolding(vb_block::specs::Numbers::eight_bytes))]
 pub(crate) fn split_u64(bytes: &[u8]) -> (u64, &[u8])
     requires { 8 ≤ length bytes.now }
     ensures parts { bytes.now ≡ eight_bytes result.0 ++ result.1.now }

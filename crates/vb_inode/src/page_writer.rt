@@ -1,7 +1,8 @@
 // Writes a page from its front on.
 ghost use Rattle.std.specs.Prelude.{◌≡◌, ◌+◌, ◌*◌, ◌≤◌, [], ◌++◌, length, replicate, IfOk};
 ghost use Rattle.std.specs.List.{flat_map};
-ghost use Rattle.vb_inode.specs.Layout.{eight_bytes, four_bytes, padded, ref_bytes};
+ghost use Rattle.vb_block.specs.Numbers.{eight_bytes, four_bytes};
+ghost use Rattle.vb_inode.specs.Layout.{padded, ref_bytes};
 
 use std::alloc::{AllocError, Global};
 use std::marker::Model;
@@ -58,7 +59,7 @@ impl PageWriter {
     }
 
     /// Writes a number in four bytes, the lowest first.
-    #[tactic(auto, unfolding(crate::specs::Layout::four_bytes))]
+    #[tactic(auto, unfolding(vb_block::specs::Numbers::four_bytes))]
     pub(crate) fn put_u32(&mut self, number: u32)
         requires { length self.old + 4 ≤ 4096 }
         ensures written { self.new ≡ self.old ++ four_bytes number }
@@ -68,7 +69,7 @@ impl PageWriter {
     }
 
     /// Writes a number in eight bytes, the lowest first.
-    #[tactic(auto, unfolding(crate::specs::Layout::eight_bytes))]
+    #[tactic(auto, unfolding(vb_block::specs::Numbers::eight_bytes))]
     pub(crate) fn put_u64(&mut self, number: u64)
         requires { length self.old + 8 ≤ 4096 }
         ensures written { self.new ≡ self.old ++ eight_bytes number }

@@ -76,12 +76,14 @@ same_state a b e = cc
 same_view : (a b : LinkView) → Some a ≡ Some b → a ≡ b
 same_view a b e = cc
 
--- the laws of a link that tells a state and shows its view
+-- what is told is a state that a cloud can have
 pub reached_of : (a k : CloudState) → IsCloudState a → Some a ≡ Some k → IsCloudState k
 reached_of a k is e = subst IsCloudState (same_state a k e) is
 
+-- what is shown is a view that a link can show
 pub valid_of : (a : CloudState) (v : LinkView) → IsCloudState a → Some (view_of a) ≡ Some v → IsLinkView v
 valid_of a v is e = subst IsLinkView (same_view (view_of a) v e) (view_is_valid a is)
 
+-- what is shown is what is told
 pub agree_of : (a k : CloudState) (v : LinkView) → Some a ≡ Some k → Some (view_of a) ≡ Some v → v ≡ view_of k
 agree_of a k v told shown = sym (same_view (view_of a) v shown) ∙ ap view_of (same_state a k told)

@@ -5,9 +5,10 @@ use Rattle.std.proofs.lemmas.List.{length-append, length-take, take-append-le, g
 use Rattle.vb_msg.specs.declared.frame_error.FrameError.{FrameError}
 use Rattle.vb_msg.specs.declared.frame_error.FrameError.TheVariants.{Short}
 use Rattle.vb_msg.specs.declared.message.Msg.{Msg}
-use Rattle.vb_msg.specs.Frames.{body_length, body_of, covered, four_bytes, frame, frames_of, front_of, has_length, number_in, number_of, AreFrames}
+use Rattle.vb_block.specs.Numbers.{four_bytes}
+use Rattle.vb_msg.specs.Frames.{body_length, body_of, covered, frame, frames_of, front_of, has_length, number_in, number_of, AreFrames}
 use Rattle.vb_msg.proofs.FrameFronts.{front-cut, front-four, front-none}
-use Rattle.vb_msg.proofs.Numbers.{body_length-take}
+use Rattle.vb_msg.proofs.BodyLengths.{body_length-take}
 use Rattle.vb_msg.proofs.WholeFrames.{body-few, body_length-frame, frames_same, has_length-body, length-frame, number_in-frame}
 
 -- ---- fronts of a frame

@@ -9,9 +9,11 @@ use Rattle.vb_msg.specs.declared.frame_error.FrameError.{FrameError}
 use Rattle.vb_msg.specs.declared.frame_error.FrameError.TheVariants.{BadFrame, Short, Memory}
 use Rattle.vb_msg.specs.declared.message.Msg.{Msg}
 use Rattle.vb_msg.specs.Bodies.{Understands}
-use Rattle.vb_msg.specs.Frames.{body_length, body_of, covered, four_bytes, frame, front_of, has_length, number_in, number_of, DecodesTo, IsUnlessMemory}
+use Rattle.vb_block.specs.Numbers.{four_bytes}
+use Rattle.vb_msg.specs.Frames.{body_length, body_of, covered, frame, front_of, has_length, number_in, number_of, DecodesTo, IsUnlessMemory}
 use Rattle.vb_msg.proofs.FrameFronts.{IsWholeFront, whole-front}
-use Rattle.vb_msg.proofs.Numbers.{body_length-again, fronts_same, length-four_bytes, parts_whole}
+use Rattle.vb_block.proofs.Numbers.{fronts_same, length-four_bytes, parts_whole}
+use Rattle.vb_msg.proofs.BodyLengths.{body_length-again}
 use Rattle.vb_msg.proofs.WholeFrames.{front-frame, frames_same, length-covered, length-frame}
 
 -- some bytes in their parts: what a digest covers, the digest that is kept, and what follows

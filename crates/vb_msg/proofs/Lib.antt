@@ -1,4 +1,4 @@
-pub mod Numbers
+pub mod BodyLengths
 pub mod PathTexts
 pub mod MessagesSame
 pub mod FrameFronts

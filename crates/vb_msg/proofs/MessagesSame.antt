@@ -7,14 +7,15 @@ use Rattle.vb_tree.specs.declared.tree.Kind.TheVariants.{Folder, File}
 use Rattle.vb_tree.specs.Trees.{is_root}
 use Rattle.vb_path.specs.Paths.{IsPath}
 use Rattle.vb_msg.specs.Ranges.{are_zeros}
-use Rattle.vb_msg.specs.Frames.{body_of, number_of, number_of_kind, path_bytes, eight_bytes}
+use Rattle.vb_block.specs.Numbers.{eight_bytes}
+use Rattle.vb_msg.specs.Frames.{body_of, number_of, number_of_kind, path_bytes}
 use Rattle.vb_msg.specs.declared.message.Msg.{Msg}
 use Rattle.vb_msg.specs.declared.message.Msg.TheVariants.{Claim, Begin, Object, Part, Seal, Enter, Keep, Publish}
 use Rattle.vb_msg.specs.declared.ranges.CloudId.{CloudId}
 use Rattle.vb_msg.specs.declared.ranges.Epoch.{Epoch}
 use Rattle.vb_msg.specs.declared.ranges.EntryPath.{EntryPath}
 use Rattle.vb_msg.specs.declared.ranges.PartBytes.{PartBytes}
-use Rattle.vb_msg.proofs.Numbers.{eight_bytes_same}
+use Rattle.vb_block.proofs.Numbers.{eight_bytes_tell}
 use Rattle.vb_msg.proofs.PathTexts.{path_bytes_same}
 
 epochs_same : (a b : Epoch) → a.number ≡ b.number → a ≡ b
@@ -49,7 +50,7 @@ epochs_spelled : (a b : Epoch) → eight_bytes a.number ≡ eight_bytes b.number
 epochs_spelled a b e =
     let small_a = a.small in
     let small_b = b.small in
-    epochs_same a b (eight_bytes_same a.number b.number (omega arith) (omega arith) e)
+    epochs_same a b (eight_bytes_tell a.number b.number (omega arith) (omega arith) e)
 
 -- the same bytes begin with one entry's path
 pub entry_bytes_same : (a b : EntryPath) (xs ys : List ℕ) → path_bytes a.path ++ xs ≡ path_bytes b.path ++ ys → (a ≡ b) × (xs ≡ ys)

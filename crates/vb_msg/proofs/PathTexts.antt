@@ -9,8 +9,9 @@ use Rattle.vb_msg.specs.declared.ranges.EntryPath.{EntryPath}
 use Rattle.vb_msg.specs.declared.frame_error.FrameError.{FrameError}
 use Rattle.vb_msg.specs.declared.frame_error.FrameError.TheVariants.{BadFrame, Short, Memory}
 use Rattle.vb_msg.specs.Bodies.{ReadsPath, TakesPath}
-use Rattle.vb_msg.specs.Frames.{path_bytes, two_bytes}
-use Rattle.vb_msg.proofs.Numbers.{fronts_same, length-two_bytes, two_bytes_same}
+use Rattle.vb_block.specs.Numbers.{two_bytes}
+use Rattle.vb_msg.specs.Frames.{path_bytes}
+use Rattle.vb_block.proofs.Numbers.{fronts_same, length-two_bytes, two_bytes_same}
 
 -- what reads as a path has no fault
 pub no_fault : (text : List ℕ) (parts : List (List ℕ)) → path_of text ≡ Ok parts → fault_of text ≡ None

@@ -13,10 +13,12 @@ use Rattle.vb_msg.specs.declared.frame_error.FrameError.TheVariants.{BadFrame, S
 use Rattle.vb_msg.specs.declared.message.Msg.{Msg}
 use Rattle.vb_msg.specs.declared.message.Msg.TheVariants.{Claim, Begin, Object, Part, Seal, Enter, Keep, Publish}
 use Rattle.vb_msg.specs.declared.ranges.EntryPath.{EntryPath}
-use Rattle.vb_msg.specs.Frames.{body_length, body_of, covered, eight_bytes, four_bytes, frame, front_of, has_length, number_in, number_of, number_of_kind, path_bytes}
+use Rattle.vb_block.specs.Numbers.{eight_bytes, four_bytes}
+use Rattle.vb_msg.specs.Frames.{body_length, body_of, covered, frame, front_of, has_length, number_in, number_of, number_of_kind, path_bytes}
 use Rattle.vb_msg.proofs.FrameFronts.{IsWholeFront, front-whole, whole-front}
 use Rattle.vb_msg.proofs.MessagesSame.{messages_same}
-use Rattle.vb_msg.proofs.Numbers.{body_length-again, fronts_same, length-eight_bytes, length-four_bytes}
+use Rattle.vb_block.proofs.Numbers.{fronts_same, length-eight_bytes, length-four_bytes}
+use Rattle.vb_msg.proofs.BodyLengths.{body_length-again}
 use Rattle.vb_msg.proofs.PathTexts.{length-path_bytes, no_fault, text-short}
 
 -- a text of one byte is no path but the root

@@ -8,7 +8,8 @@ use Rattle.vb_msg.specs.declared.ranges.Epoch.{Epoch}
 use Rattle.vb_msg.specs.declared.ranges.EntryPath.{EntryPath}
 use Rattle.vb_msg.specs.declared.frame_error.FrameError.{FrameError}
 use Rattle.vb_msg.specs.declared.frame_error.FrameError.TheVariants.{BadFrame, Short, Memory}
-use Rattle.vb_msg.specs.Frames.{body_of, eight_bytes, number_of, path_bytes}
+use Rattle.vb_block.specs.Numbers.{eight_bytes}
+use Rattle.vb_msg.specs.Frames.{body_of, number_of, path_bytes}
 
 -- the answer is the message of this number and body; BadFrame where there is none
 abbrev pub Understands : ℕ → List ℕ → Result Msg FrameError → Type 0

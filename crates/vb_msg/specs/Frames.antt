@@ -1,8 +1,9 @@
 -- Frames: the one spelling of each message in bytes, and what the front of some bytes is.
 use Rattle.std.specs.Prelude.{◌≡◌, ◌≢◌, ℕ, ◌+◌, ◌⊎◌, Bool, false, not, ◌&&◌, ◌||◌, ◌==◌, nat_lt, nat_le, if◌then◌else◌, List, [], ◌∷◌, ◌++◌, length, take, get_or, Result, Ok, Err}
 use Rattle.std.specs.List.{flat_map}
-use Rattle.byteorder.specs.Endian.{little_bytes, little_number}
+use Rattle.byteorder.specs.Endian.{little_number}
 use Rattle.sha2.specs.Sha256.{sha256}
+use Rattle.vb_block.specs.Numbers.{two_bytes, four_bytes, eight_bytes}
 use Rattle.vb_path.specs.Paths.{text_of_path}
 use Rattle.vb_tree.specs.declared.tree.Kind.{Kind}
 use Rattle.vb_tree.specs.declared.tree.Kind.TheVariants.{Folder, File}
@@ -12,16 +13,6 @@ use Rattle.vb_msg.specs.declared.frame_error.FrameError.{FrameError}
 use Rattle.vb_msg.specs.declared.frame_error.FrameError.TheVariants.{BadFrame, Short, Memory}
 
 -- ---- writing
-
--- a number in two, four and eight bytes, the lowest byte first
-unfoldable pub two_bytes : ℕ → List ℕ
-two_bytes n = little_bytes 2 n
-
-unfoldable pub four_bytes : ℕ → List ℕ
-four_bytes n = little_bytes 4 n
-
-unfoldable pub eight_bytes : ℕ → List ℕ
-eight_bytes n = little_bytes 8 n
 
 -- the number of a kind of entry
 abbrev pub number_of_kind : Kind → ℕ

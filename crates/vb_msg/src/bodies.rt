@@ -1,7 +1,8 @@
 // Reads the bodies of messages.
 ghost use Rattle.std.specs.Prelude.{◌≡◌, ◌+◌, ◌≤◌, ◌++◌, ◌∷◌, length, true, drop};
 ghost use Rattle.vb_path.specs.Paths.{text_of_path};
-ghost use Rattle.vb_msg.specs.Frames.{eight_bytes, has_length, number_of_kind, path_bytes, two_bytes};
+ghost use Rattle.vb_block.specs.Numbers.{eight_bytes, two_bytes};
+ghost use Rattle.vb_msg.specs.Frames.{has_length, number_of_kind, path_bytes};
 ghost use Rattle.vb_msg.specs.Bodies.{IsEpochOf, ReadsPath, TakesPath, Understands, kind_from};
 
 use crate::{CloudId, EntryPath, Epoch, FrameError, Msg, PartBytes};
@@ -62,7 +63,7 @@ fn publish_of(body: &[u8]) -> Result<Msg, FrameError>
 }
 
 // The epoch of these bytes, and None where it is out of its range.
-#[tactic(auto, unfolding(crate::specs::Frames::eight_bytes))]
+#[tactic(auto, unfolding(vb_block::specs::Numbers::eight_bytes))]
 fn epoch_of(body: &[u8]) -> Option<Epoch>
     requires { length body.now ≡ 8 }
     ensures { IsEpochOf body.now result }
@@ -171,7 +172,7 @@ fn take_path(alloc: Global, bytes: &[u8]) -> Result<(EntryPath, &[u8]), FrameErr
 }
 
 // The number in the first two bytes, and the bytes after it.
-#[tactic(auto, unfolding(crate::specs::Frames::two_bytes))]
+#[tactic(auto, unfolding(vb_block::specs::Numbers::two_bytes))]
 fn split_u16(bytes: &[u8]) -> (u16, &[u8])
     requires { 2 ≤ length bytes.now }
     ensures parts { bytes.now ≡ two_bytes result.0 ++ result.1.now }

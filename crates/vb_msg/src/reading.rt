@@ -1,7 +1,8 @@
 // Reads the message of a frame at the front of some bytes.
 ghost use Rattle.std.specs.Prelude.{◌≡◌, ◌+◌, ◌≤◌, ◌++◌, ℕ, List, length, true, Ok, take, drop};
 ghost use Rattle.vb_msg.specs.declared.message.Msg.{Msg};
-ghost use Rattle.vb_msg.specs.Frames.{body_length, four_bytes, front_of, frame, has_length, DecodesTo, IsUnlessMemory};
+ghost use Rattle.vb_block.specs.Numbers.{four_bytes};
+ghost use Rattle.vb_msg.specs.Frames.{body_length, front_of, frame, has_length, DecodesTo, IsUnlessMemory};
 
 use crate::bodies::message_of;
 use crate::{FrameError, Msg};
@@ -90,7 +91,7 @@ fn body_length(bytes: &[u8]) -> usize
 }
 
 // The number in the first four bytes, and the bytes after it.
-#[tactic(auto, unfolding(crate::specs::Frames::four_bytes))]
+#[tactic(auto, unfolding(vb_block::specs::Numbers::four_bytes))]
 fn split_u32(bytes: &[u8]) -> (u32, &[u8])
     requires { 4 ≤ length bytes.now }
     ensures parts { bytes.now ≡ four_bytes result.0 ++ result.1.now }

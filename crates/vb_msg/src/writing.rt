@@ -7,7 +7,7 @@ use sha2::{Digest, Sha256};
 use std::alloc::{AllocError, Global};
 use vb_tree::{Bytes, Kind};
 
-#[tactic(auto, using(crate::proofs::WholeFrames::body_lengths), unfolding(crate::specs::Frames::four_bytes))]
+#[tactic(auto, using(crate::proofs::WholeFrames::body_lengths), unfolding(vb_block::specs::Numbers::four_bytes))]
 /// The one frame of a message: the length of its body in four bytes, its number in one, the body, and the
 /// SHA-256 of all these. At most 4,133 bytes.
 pub fn encode(alloc: Global, msg: &Msg) -> Result<Bytes, AllocError>
@@ -41,7 +41,7 @@ fn number_of(msg: &Msg) -> u8
 }
 
 // Adds the body of a message.
-#[tactic(auto, unfolding(crate::specs::Frames::eight_bytes))]
+#[tactic(auto, unfolding(vb_block::specs::Numbers::eight_bytes))]
 fn add_body(body: &mut Bytes, msg: &Msg) -> Result<(), AllocError>
     ensures { OnOk result (body.new ≡ body.old ++ body_of msg.now) }
 {
@@ -71,7 +71,7 @@ fn number_of_kind(kind: Kind) -> u8
     }
 }
 
-#[tactic(auto, unfolding(crate::specs::Frames::path_bytes, crate::specs::Frames::two_bytes))]
+#[tactic(auto, unfolding(crate::specs::Frames::path_bytes, vb_block::specs::Numbers::two_bytes))]
 // Adds a path: the length of its text in two bytes, and the text.
 fn add_path(body: &mut Bytes, entry: &EntryPath) -> Result<(), AllocError>
     ensures { OnOk result (body.new ≡ body.old ++ path_bytes entry.now.path) }

@@ -4,21 +4,25 @@ ghost use Rattle.vb_pages.specs.declared.page_error.PageError.TheVariants.{Memor
 ghost use Rattle.vb_pages.specs.Reads.{page_error_of};
 
 use std::alloc::AllocError;
+use thiserror::Error;
 use vb_block::Digest;
 use vb_disk::DiskError;
 
 /// Why a page isn't given.
-#[derive(Clone, Copy, Debug, PartialEq, Eq)]
+#[derive(Clone, Copy, Debug, PartialEq, Eq, Error)]
 pub enum PageError {
     /// The place has a page of another digest than the one that is due.
+    #[error("the page at place {place} is damaged: its digest is another")]
     Damaged {
         place: u32,
         kept: Digest,
         found: Digest,
     },
     /// The disk failed.
+    #[error("the disk failed")]
     DiskFault,
     /// No memory was found.
+    #[error("no memory was found")]
     Memory,
 }
 

@@ -8,6 +8,7 @@ use crate::parse::{fault_in, parts_past_slash};
 use crate::{Bytes, Names};
 use std::alloc::{AllocError, Global};
 use std::marker::Model;
+use thiserror::Error;
 
 /// The place of an entry: its parts, from the root down. The root has none.
 /// Contracts see the list of the parts.
@@ -18,28 +19,39 @@ pub struct Path {
 }
 
 /// Why a text is no path. The first reason in this order is given.
-#[derive(Clone, Copy, Debug, PartialEq, Eq)]
+#[derive(Clone, Copy, Debug, PartialEq, Eq, Error)]
 pub enum PathError {
     /// No bytes.
+    #[error("a path has no bytes")]
     Empty,
     /// It doesn't begin with a slash.
+    #[error("a path begins with a slash")]
     NotAbsolute,
     /// It has more than 1,024 bytes.
+    #[error("a path of {length} bytes is longer than 1,024")]
     LongPath { length: u64 },
     /// It is no UTF-8 from this byte on.
+    #[error("a path is no UTF-8 from byte {at} on")]
     NotUtf8 { at: u64 },
     /// This byte is zero.
+    #[error("byte {at} of a path is zero")]
     BadByte { at: u64 },
     /// It ends with a slash, and isn't the root.
+    #[error("a path ends with a slash")]
     TrailingSlash,
     /// It has more than 32 parts.
+    #[error("a path of {parts} parts is deeper than 32")]
     Deep { parts: u32 },
     /// A part has no bytes.
+    #[error("a part of a path has no bytes")]
     EmptyPart,
     /// A part is `.` or `..`.
+    #[error("a part of a path is `.` or `..`")]
     DotPart,
     /// A part has more than 255 bytes.
+    #[error("a part of a path has {length} bytes, more than 255")]
     LongPart { length: u64 },
+    #[error("no memory was found")]
     Memory,
 }
 

@@ -49,7 +49,8 @@ pub fn run<S: Source, O: Sink>(
     ensures unread { result.status ≡ 2 → source.new ≡ source.old }
     ensures source_fault { S.faults source.new ≡ faults_at_status result.status (S.faults source.old) }
     ensures source_stopped { result.status ≡ 3 → S.stopped source.new ≡ true }
-    ensures sink_counts { CountsAt result.status (O.faults sink.old) (O.shortages sink.old) (O.faults sink.new) (O.shortages sink.new) (O.stopped sink.new) }
+    ensures sink_counts { CountsAt result.status (O.faults sink.old) (O.shortages sink.old) (O.faults sink.new) (O.shortages sink.new)
+        (O.stopped sink.new) }
 
     // 5 exactly where a line is wrong and 11 exactly where a line can't be played yet, unless the words, the source or the
     // memory were wanting: each names the first such line, and a script without one is played.

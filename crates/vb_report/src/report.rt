@@ -102,7 +102,10 @@ impl Report {
 
     /// Adds the heading and the entries, as far as memory is found.
     fn list_entries(&mut self, heading: &[u8], cloud: &Cloud) -> Result<(), AllocError>
-        ensures ok { OnOk result (self.new ≡ record { text = self.old.text ++ listing_text heading.now cloud.now.epoch (map listed_of cloud.now.tree); shortages = self.old.shortages }) }
+        ensures ok { OnOk result (self.new ≡ record {
+          text = self.old.text ++ listing_text heading.now cloud.now.epoch (map listed_of cloud.now.tree);
+          shortages = self.old.shortages;
+        }) }
         ensures err { OnErr result (take (length self.old.text) self.new.text ≡ self.old.text) }
         ensures counted { OnErr result (self.new.shortages ≡ counted self.old.shortages) }
     {

@@ -8,15 +8,18 @@ ghost use Rattle.vb_stream.specs.declared.sink.SinkError.{SinkError};
 
 use std::alloc::{AllocError, Global};
 use std::marker::Model;
+use thiserror::Error;
 use vb_cause::{Failures, raised};
 use vb_list::Items;
 
 /// Why a write took less than it was given.
-#[derive(Clone, Copy, Debug, PartialEq, Eq)]
+#[derive(Clone, Copy, Debug, PartialEq, Eq, Error)]
 pub enum SinkError {
     /// The write failed. Some front of the piece may have been taken.
+    #[error("the output can't be written")]
     Failed,
     /// Memory ran out. Nothing of the piece was taken.
+    #[error("no memory was found")]
     Memory,
 }
 

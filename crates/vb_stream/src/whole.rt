@@ -7,12 +7,15 @@ ghost use Rattle.vb_stream.specs.Streams.{WritesWhole, TakesFront, HasGot, GetsM
 
 use crate::{Sink, SinkError, Source, SourceFault};
 use std::alloc::{AllocError, Global};
+use thiserror::Error;
 use vb_list::Items;
 
 /// Why a source wasn't read.
-#[derive(Clone, Copy, Debug, PartialEq, Eq)]
+#[derive(Clone, Copy, Debug, PartialEq, Eq, Error)]
 pub enum ReadError {
+    #[error("the input can't be read")]
     Fault,
+    #[error("no memory was found")]
     Memory,
 }
 

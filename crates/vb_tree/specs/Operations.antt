@@ -15,6 +15,19 @@ use Rattle.vb_tree.specs.Contents.{written_over, truncated_to, part_of}
 use Rattle.vb_tree.specs.Renames.{renamed}
 use Rattle.vb_tree.specs.Refusals.{refusal_of}
 
+-- the path that an operation is about, and for a rename the one that is left
+abbrev pub path_of_op : Op → List (List ℕ)
+path_of_op (Create path) = path
+path_of_op (MakeDir path) = path
+path_of_op (Write path offset bytes) = path
+path_of_op (Truncate path len) = path
+path_of_op (Rename source target) = source
+path_of_op (Remove path) = path
+path_of_op (RemoveDir path) = path
+path_of_op (Read path offset len) = path
+path_of_op (Listing path) = path
+path_of_op (Stat path) = path
+
 -- the operation's numbers are in their ranges
 abbrev pub IsInRange : Op → Type 0
 IsInRange (Create path) = Unit {0}

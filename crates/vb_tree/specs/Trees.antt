@@ -1,5 +1,5 @@
 -- Trees: their entries, what stands where, and how much they take.
-use Rattle.std.specs.Prelude.{◌≡◌, ℕ, ◌+◌, ◌-◌, ◌/◌, ◌≤◌, ◌==◌, Bool, true, false, not, ◌&&◌, if◌then◌else◌, List, [], ◌∷◌, length, take, get_or, map, Option, Some, None}
+use Rattle.std.specs.Prelude.{slice_index_or, slice_set, ◌≡◌, ℕ, ◌+◌, ◌-◌, ◌/◌, ◌≤◌, ◌==◌, Bool, true, false, not, ◌&&◌, if◌then◌else◌, List, [], ◌∷◌, length, take, get_or, map, Option, Some, None}
 use Rattle.std.specs.Option.{option_map}
 use Rattle.std.specs.Ordering.{is_lt, nat_cmp}
 use Rattle.std.specs.Cmp.Lexicographic.{slice_cmp}
@@ -82,6 +82,10 @@ insert_entry new (e ∷ es) = if is_lt (path_cmp new.path e.path) then new ∷ e
 abbrev pub with_bytes_at : List (List ℕ) → List ℕ → List TreeEntry → List TreeEntry
 with_bytes_at path bytes [] = []
 with_bytes_at path bytes (e ∷ es) = if same_path path e.path then record e { bytes = bytes } ∷ es else e ∷ with_bytes_at path bytes es
+
+-- the entries with the bytes of the one at a place changed
+abbrev pub changed_at : (List ℕ → List ℕ) → ℕ → TreeEntry → List TreeEntry → List TreeEntry
+changed_at change place d entries = slice_set entries place (record (slice_index_or entries place d) { bytes = change (slice_index_or entries place d).bytes })
 
 -- how many pages of 4,096 bytes a length takes
 abbrev pub data_pages_of : ℕ → ℕ

@@ -1,7 +1,8 @@
 // What a write, a truncate and a read make of a file's bytes.
-ghost use Rattle.std.specs.Prelude.{◌≡◌, ◌+◌, ◌-◌, ◌^◌, ◌<◌, ◌++◌, length, replicate, vec_len, slice_index_or, slice_set, OnOk, OnErr};
+ghost use Rattle.std.specs.Prelude.{◌≡◌, ◌+◌, ◌-◌, ◌^◌, ◌<◌, ◌++◌, length, replicate, vec_len, OnOk, OnErr};
 ghost use Rattle.vb_tree.specs.declared.tree.TreeEntry.{TreeEntry};
 ghost use Rattle.vb_tree.specs.Contents.{written_over, truncated_to, part_of};
+ghost use Rattle.vb_tree.specs.Trees.{changed_at};
 
 use crate::{Bytes, TreeEntry};
 use std::alloc::AllocError;
@@ -43,7 +44,7 @@ pub(crate) fn write_at(
 ) -> Result<(), AllocError>
     requires place_in { place < vec_len entries.old }
     requires end_in { offset + length written.now < 2 ^ 64 }
-    ensures ok { (d : TreeEntry) → OnOk result (entries.new.items ≡ slice_set entries.old.items place (record (slice_index_or entries.old.items place d) { bytes = written_over offset written.now (slice_index_or entries.old.items place d).bytes })) }
+    ensures ok { (d : TreeEntry) → OnOk result (entries.new.items ≡ changed_at (written_over offset written.now) place d entries.old.items) }
     ensures err { OnErr result (entries.new.items ≡ entries.old.items) }
 {
     let entry = &mut entries[place];
@@ -57,7 +58,7 @@ pub(crate) fn resize_at(
     len: u64,
 ) -> Result<(), AllocError>
     requires { place < vec_len entries.old }
-    ensures ok { (d : TreeEntry) → OnOk result (entries.new.items ≡ slice_set entries.old.items place (record (slice_index_or entries.old.items place d) { bytes = truncated_to len (slice_index_or entries.old.items place d).bytes })) }
+    ensures ok { (d : TreeEntry) → OnOk result (entries.new.items ≡ changed_at (truncated_to len) place d entries.old.items) }
     ensures err { OnErr result (entries.new.items ≡ entries.old.items) }
 {
     let entry = &mut entries[place];

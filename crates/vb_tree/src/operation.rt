@@ -57,55 +57,56 @@ pub enum Op {
 }
 
 impl Op {
+    ghost use Rattle.vb_tree.specs.Operations.{path_of_op};
+
+    /// The path that it is about, and for a rename the one that is left.
+    fn path(&self) -> &Path
+        ensures { result.now ≡ path_of_op self.now }
+    {
+        match self {
+            Op::Create { path }
+            | Op::MakeDir { path }
+            | Op::Write { path, .. }
+            | Op::Truncate { path, .. }
+            | Op::Rename { source: path, .. }
+            | Op::Remove { path }
+            | Op::RemoveDir { path }
+            | Op::Read { path, .. }
+            | Op::List { path }
+            | Op::Stat { path } => path,
+        }
+    }
+
     /// An equal operation.
     pub fn copy(&self, alloc: Global) -> Result<Op, AllocError>
         ensures { IfOk result (λ copied. copied ≡ self.now) }
     {
+        let path = self.path().copy(alloc)?;
         Ok(match self {
-            Op::Create { path } => Op::Create {
-                path: path.copy(alloc)?,
-            },
-            Op::MakeDir { path } => Op::MakeDir {
-                path: path.copy(alloc)?,
-            },
-            Op::Write {
+            Op::Create { .. } => Op::Create { path },
+            Op::MakeDir { .. } => Op::MakeDir { path },
+            Op::Write { offset, bytes, .. } => Op::Write {
                 path,
-                offset,
-                bytes,
-            } => Op::Write {
-                path: path.copy(alloc)?,
                 offset: *offset,
                 bytes: Bytes::of(alloc, bytes.slice())?,
             },
-            Op::Truncate { path, length } => Op::Truncate {
-                path: path.copy(alloc)?,
+            Op::Truncate { length, .. } => Op::Truncate {
+                path,
                 length: *length,
             },
-            Op::Rename { source, target } => Op::Rename {
-                source: source.copy(alloc)?,
+            Op::Rename { target, .. } => Op::Rename {
+                source: path,
                 target: target.copy(alloc)?,
             },
-            Op::Remove { path } => Op::Remove {
-                path: path.copy(alloc)?,
-            },
-            Op::RemoveDir { path } => Op::RemoveDir {
-                path: path.copy(alloc)?,
-            },
-            Op::Read {
+            Op::Remove { .. } => Op::Remove { path },
+            Op::RemoveDir { .. } => Op::RemoveDir { path },
+            Op::Read { offset, length, .. } => Op::Read {
                 path,
-                offset,
-                length,
-            } => Op::Read {
-                path: path.copy(alloc)?,
                 offset: *offset,
                 length: *length,
             },
-            Op::List { path } => Op::List {
-                path: path.copy(alloc)?,
-            },
-            Op::Stat { path } => Op::Stat {
-                path: path.copy(alloc)?,
-            },
+            Op::List { .. } => Op::List { path },
+            Op::Stat { .. } => Op::Stat { path },
         })
     }
 }

@@ -19,5 +19,6 @@ pub trait Kept {
     /// The published epoch after its history, which is below that of no beginning of it.
     fn published(&self) -> u64
         ensures epoch { (given : Self) → stands given self.now → result ≡ published_after given (history self.now) }
-        ensures rising { (given : Self) (front : List Entry) → stands given self.now → IsPrefix front (history self.now) → published_after given front ≤ result };
+        ensures rising { (given : Self) (front : List Entry) → stands given self.now → IsPrefix front (history self.now)
+            → published_after given front ≤ result };
 }

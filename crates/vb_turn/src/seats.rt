@@ -49,7 +49,8 @@ impl<V> Seats<V> {
 
     /// Takes the last seat.
     pub fn pop(&mut self) -> Option<TurnSeat<V>>
-        ensures { MatchOption result ((self.old.seats ≡ []) × (self.new ≡ self.old)) (λ seat. (self.old.seats ≡ self.new.seats ++ seat ∷ []) × (self.new.made ≡ self.old.made)) }
+        ensures { MatchOption result ((self.old.seats ≡ []) × (self.new ≡ self.old))
+            (λ seat. (self.old.seats ≡ self.new.seats ++ seat ∷ []) × (self.new.made ≡ self.old.made)) }
     {
         self.seats.pop()
     }

@@ -194,3 +194,15 @@ fn one_seat_alone(rt: HostRuntime) -> Result<(), Fail> {
     assert!(rt; done);
     Ok(())
 }
+
+// The lock is made and closed again, or its value comes back. `checks/memory` refuses each allocation in turn.
+#[test]
+fn refused_memory(rt: HostRuntime) -> Result<(), Fail> {
+    let alloc = rt.alloc();
+    let book = match Turn::new(alloc, Book::new(alloc, 7), &[0, 1]) {
+        Ok((turn, row)) => turn.close(row),
+        Err(refused) => refused.value,
+    };
+    assert!(rt; book.entries() == 0 && book.published() == 7);
+    Ok(())
+}

@@ -82,7 +82,8 @@ impl<V: Kept> Turn<V> {
         numbers: &[u32],
         mut seats: Vec<TurnSeat<V>>,
     ) -> Seats<V>
-        requires first { (first.table_id ≡ self.now.table.shared.table_id) × (first.me ≡ (unused_view V.published_after self.now.table.shared.key numbers.now, [])) }
+        requires first { (first.table_id ≡ self.now.table.shared.table_id)
+            × (first.me ≡ (unused_view V.published_after self.now.table.shared.key numbers.now, [])) }
         requires seats { (0 < length numbers.now) × (seats.items ≡ []) × (length numbers.now ≤ vec_capacity seats) }
         ensures row { (result.made ≡ length numbers.now) × (map number_of result.seats ≡ numbers.now) }
         ensures unused { AllByRecursion (λ seat. IsSeatOf self.now seat × IsUnused (V.published_after (given_to self.now) []) seat) result.seats }
@@ -109,7 +110,8 @@ impl<V: Kept> Turn<V> {
 
     // The first seat puts the value into the empty slot, and passes its turn on.
     fn fill(&self, first: &mut TableSeat<V>, value: V)
-        requires seat { (first.old.table_id ≡ self.now.table.shared.table_id) × (first.old.me ≡ (first_view V.published_after self.now.table.shared.key, [])) }
+        requires seat { (first.old.table_id ≡ self.now.table.shared.table_id)
+            × (first.old.me ≡ (first_view V.published_after self.now.table.shared.key, [])) }
         requires value { V.stands (given_to self.now) value × (V.history value ≡ []) }
         ensures { (first.new.table_id ≡ first.old.table_id) × (first.new.me ≡ (record first.old.me.0 { stage = Free }, [])) }
     {
@@ -121,10 +123,12 @@ impl<V: Kept> Turn<V> {
 
     // The value, where the ticket is the one that is served.
     fn take_served(&self, seat: &mut TableSeat<V>, ticket: u64) -> Option<V>
-        requires lock { (seat.old.table_id ≡ self.now.table.shared.table_id) × (seat.old.me.0.given ≡ Some (given_to self.now)) × (0 < length seat.old.me.0.mine) }
+        requires lock { (seat.old.table_id ≡ self.now.table.shared.table_id) × (seat.old.me.0.given ≡ Some (given_to self.now))
+            × (0 < length seat.old.me.0.mine) }
         requires waits { (t : ℕ) × (seat.old.me.0.stage ≡ Waiting t) × (ticket ≡ t % 2 ^ 64) }
         ensures lock { seat.new.table_id ≡ seat.old.table_id }
-        ensures turn { MatchOption result (seat.new.me ≡ seat.old.me) (λ x. Took V.history (V.stands (given_to self.now)) (V.published_after (given_to self.now)) seat.old.me seat.new.me x) }
+        ensures turn { MatchOption result (seat.new.me ≡ seat.old.me)
+            (λ x. Took V.history (V.stands (given_to self.now)) (V.published_after (given_to self.now)) seat.old.me seat.new.me x) }
     {
         if self.table.shared.load::<Look>(seat, 1) != ticket {
             return None;
@@ -139,7 +143,8 @@ impl<V: Kept> Turn<V> {
         ensures value { V.stands (given_to self.now) result × (V.history result ≡ seen_of seat.new) }
         ensures seen { IsPrefix (seen_of seat.old) (seen_of seat.new) }
         ensures own { (own_of seat.new ≡ own_of seat.old) × (entries_of seat.new.number (seen_of seat.new) ≡ own_of seat.new) }
-        ensures told { WasPublished (V.published_after (given_to self.now)) (seen_of seat.new) (told_of seat.old) × (told_of seat.new ≡ V.published_after (given_to self.now) (seen_of seat.new)) }
+        ensures told { WasPublished (V.published_after (given_to self.now)) (seen_of seat.new) (told_of seat.old)
+            × (told_of seat.new ≡ V.published_after (given_to self.now) (seen_of seat.new)) }
     {
         let ticket = self.table.shared.fetch_add::<Draw>(&mut seat.seat, 0, 1);
         let backoff = Backoff::new();
@@ -157,8 +162,17 @@ impl<V: Kept> Turn<V> {
     fn count<J: Grown>(&self, seat: &mut TableSeat<V>, value: &V, added: u64)
         requires seat { (seat.old.table_id ≡ self.now.table.shared.table_id) × (is_holding seat.old.me.0.stage ≡ true) }
         requires history { (J.history ≡ V.history value.now) × Rises (V.published_after (given_to self.now)) (V.history value.now) }
-        requires entries { (length (V.history value.now) ≡ length seat.old.me.0.seen + added) × ((number : ℕ) × (seat.old.me.0.mine ≡ (number, made_first seat.old.me.0.mine) ∷ []) × GoesOn number seat.old.me.0.seen (V.history value.now)) }
-        ensures { (seat.new.table_id ≡ seat.old.table_id) × (seat.new.me ≡ (record seat.old.me.0 { stage = counted_stage seat.old.me.0.stage; seen = V.history value.now; mine = remade (V.history value.now) seat.old.me.0.mine }, seat.old.me.1)) }
+        requires entries { (length (V.history value.now) ≡ length seat.old.me.0.seen + added)
+            × ((number : ℕ) × (seat.old.me.0.mine ≡ (number, made_first seat.old.me.0.mine) ∷ [])
+            × GoesOn number seat.old.me.0.seen (V.history value.now)) }
+        ensures { (seat.new.table_id ≡ seat.old.table_id) × (seat.new.me ≡ (
+          record seat.old.me.0 {
+            stage = counted_stage seat.old.me.0.stage;
+            seen = V.history value.now;
+            mine = remade (V.history value.now) seat.old.me.0.mine;
+          },
+          seat.old.me.1,
+        )) }
     {
         let _ = value;
         self.table.shared.fetch_add::<Count<J>>(seat, 2, added);

@@ -2,7 +2,8 @@ use Rattle.std.proofs.Common.{◌≡◌, ℕ, ◌-◌, ◌*◌, List, ◌++◌, 
 use Rattle.std.specs.List.{flat_map}
 use Rattle.std.proofs.lemmas.List.{length-append}
 use Rattle.vb_block.specs.declared.digest.Ref.{Ref}
-use Rattle.vb_inode.specs.Layout.{fields_from, four_bytes, padded, ref_bytes}
+use Rattle.vb_block.specs.Numbers.{four_bytes}
+use Rattle.vb_inode.specs.Layout.{fields_from, padded, ref_bytes}
 use Rattle.vb_inode.proofs.Checked.{length-name, map_pages-few}
 use Rattle.vb_inode.proofs.FieldBytes.{sealed_bytes-joined}
 use Rattle.vb_inode.proofs.encode.put_node.Goals as goal

@@ -1,4 +1,4 @@
-use Rattle.vb_inode.proofs.Numbers.{parts_whole}
+use Rattle.vb_block.proofs.Numbers.{parts_whole}
 use Rattle.vb_inode.proofs.FieldBytes.{sealed_bytes-split}
 use Rattle.vb_inode.proofs.fields.split_fields.Goals as goal
 
