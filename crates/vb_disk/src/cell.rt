@@ -1,5 +1,6 @@
 // One place of a disk.
-use std::alloc::{AllocError, Global};
+use crate::Oldest;
+use std::alloc::Global;
 use std::mem;
 use vb_block::Page;
 use vb_list::Items;
@@ -9,7 +10,7 @@ use vb_list::Items;
 #[derive(Debug, Drop)]
 pub struct Cell {
     /// The oldest candidate.
-    pub first: Page,
+    pub first: Oldest,
     /// The other candidates, in the order in which they were written.
     pub later: Items<Page>,
     /// What a hurt place reads as.
@@ -17,30 +18,31 @@ pub struct Cell {
 }
 
 impl Cell {
-    ghost use Rattle.std.specs.Prelude.{◌≡◌, ◌≤◌, length, IfOk};
+    ghost use Rattle.std.specs.Prelude.{◌≡◌, ◌≤◌, length};
     ghost use Rattle.vb_disk.specs.Cells.{blank_cell, kept_cell, read_of};
 
-    /// A place that was never written: zeros alone.
-    pub fn blank(alloc: Global) -> Result<Cell, AllocError>
-        ensures { IfOk result (λ cell. cell ≡ blank_cell) }
+    /// A place that was never written: zeros alone. It takes no memory.
+    pub fn blank(alloc: Global) -> Cell
+        ensures { result ≡ blank_cell }
     {
-        Ok(Cell {
-            first: Page::zero(alloc)?,
+        Cell {
+            first: Oldest::zeros(),
             later: Items::new(alloc),
             hurt: None,
-        })
+        }
     }
 
-    /// What a read gives.
-    pub fn seen(&self) -> &Page
-        ensures { result.now ≡ read_of self.now }
+    /// Makes a page what a read gives.
+    pub fn read(&self, into: &mut Page)
+        ensures { into.new ≡ read_of self.now }
     {
         if let Some(page) = &self.hurt {
-            return page;
+            into.copy_from(page);
+            return;
         }
         match self.later.slice().last() {
-            Some(page) => page,
-            None => &self.first,
+            Some(page) => into.copy_from(page),
+            None => self.first.copy_into(into),
         }
     }
 
@@ -51,7 +53,7 @@ impl Cell {
     {
         let mut later = mem::replace(&mut self.later, Items::new(alloc)).into_vec();
         if index > 0 {
-            self.first = later.swap_remove(index - 1);
+            self.first = Oldest::page(later.swap_remove(index - 1));
         }
     }
 }

@@ -11,7 +11,6 @@ use crate::{Cell, Side};
 use std::alloc::{AllocError, Global};
 use std::collections::BTreeMap;
 use vb_block::Page;
-use vb_list::Items;
 
 /// Adds a candidate to a place, and makes it whole. A place with more than one is listed.
 pub(crate) fn write(
@@ -152,12 +151,10 @@ fn write_new(
     ensures grown { IsGrown listed.old.items listed.new.items }
     ensures listed { OnOk result (list_any (nat_eq place) listed.new.items ≡ true) }
 {
-    let mut later = Items::new(alloc);
-    later.add(page)?;
-    let first = Page::zero(alloc)?;
+    let mut cell = Cell::blank(alloc);
+    cell.later.add(page)?;
     listed.push(place)?;
-    let hurt = None;
-    cells.insert(place, Cell { first, later, hurt })?;
+    cells.insert(place, cell)?;
     Ok(())
 }
 
@@ -172,9 +169,8 @@ fn hurt_new(
     ensures ok { OnOk result (ChangesOne cells.old cells.new place (hurt_cell blank_cell page)) }
     ensures err { OnErr result (KeepsAll cells.old cells.new) }
 {
-    let first = Page::zero(alloc)?;
-    let later = Items::new(alloc);
-    let hurt = Some(page);
-    cells.insert(place, Cell { first, later, hurt })?;
+    let mut cell = Cell::blank(alloc);
+    cell.hurt = Some(page);
+    cells.insert(place, cell)?;
     Ok(())
 }

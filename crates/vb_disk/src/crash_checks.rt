@@ -1,5 +1,5 @@
 // Which crashes and which damage are refused.
-ghost use Rattle.std.specs.Prelude.{◌≡◌, nat_lt, length, unwrap_or, option_copied, IfOk};
+ghost use Rattle.std.specs.Prelude.{◌≡◌, nat_lt, length, unwrap_or, option_copied};
 ghost use Rattle.std.specs.Bool.{OnTrue, OnFalse};
 ghost use Rattle.vb_disk.specs.Cells.{blank_cell, candidates};
 ghost use Rattle.vb_disk.specs.Crashes.{pick_refusal, tear_refusal, AnswersCrash};
@@ -9,7 +9,6 @@ ghost use Rattle.vb_disk.specs.Sparse.{cell_in, cells_of};
 use crate::misses::{first_miss, is_miss};
 use crate::table::Table;
 use crate::{Cell, CrashRefused, Pick, Tear};
-use std::alloc::AllocError;
 use vb_block::Page;
 
 /// Refuses the first pick of a candidate that isn't there.
@@ -42,23 +41,23 @@ pub(crate) fn check_tears(table: &Table, torn: &[Tear]) -> Result<(), CrashRefus
 }
 
 /// Whether a page is a miss at a place.
-pub(crate) fn is_miss_at(table: &Table, place: u32, page: &Page) -> Result<bool, AllocError>
-    ensures { IfOk result (λ holds. holds ≡ is_miss (cell_in table.now.cells place) page.now) }
+pub(crate) fn is_miss_at(table: &Table, place: u32, page: &Page) -> bool
+    ensures { result ≡ is_miss (cell_in table.now.cells place) page.now }
 {
     match table.cell(place) {
-        Some(cell) => Ok(is_miss(cell, page)),
-        None => Ok(is_miss(&Cell::blank(table.alloc)?, page)),
+        Some(cell) => is_miss(cell, page),
+        None => is_miss(&Cell::blank(table.alloc), page),
     }
 }
 
 /// Makes the page the first miss of equal bytes at a place, and says whether there is one.
-pub(crate) fn first_miss_at(table: &Table, place: u32, page: &mut Page) -> Result<bool, AllocError>
-    ensures found { IfOk result (λ found. OnTrue found (IsFirstMiss (cell_in table.now.cells place) page.new)) }
-    ensures none { IfOk result (λ found. OnFalse found (IsAllTaken (cell_in table.now.cells place))) }
+pub(crate) fn first_miss_at(table: &Table, place: u32, page: &mut Page) -> bool
+    ensures found { OnTrue result (IsFirstMiss (cell_in table.now.cells place) page.new) }
+    ensures none { OnFalse result (IsAllTaken (cell_in table.now.cells place)) }
 {
     match table.cell(place) {
-        Some(cell) => Ok(first_miss(cell, page)),
-        None => Ok(first_miss(&Cell::blank(table.alloc)?, page)),
+        Some(cell) => first_miss(cell, page),
+        None => first_miss(&Cell::blank(table.alloc), page),
     }
 }
 

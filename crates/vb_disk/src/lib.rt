@@ -16,6 +16,7 @@ mod memory_disk;
 mod memory_log;
 mod misses;
 mod moments;
+mod oldest;
 mod table;
 
 pub use after_crash::crash_leaves_a_disk;
@@ -27,6 +28,7 @@ pub use log_file::{LogError, LogFile};
 pub use memory_disk::MemoryDisk;
 pub use memory_log::MemoryLog;
 pub use moments::{no_call, no_sync, one_call};
+pub use oldest::Oldest;
 
 #[cfg(test)]
 mod tests;

@@ -57,7 +57,7 @@ impl Disk for MemoryDisk {
         self.calls = raised(self.calls);
         self.pass()?;
         match self.table.cell(place) {
-            Some(cell) => into.copy_from(cell.seen()),
+            Some(cell) => cell.read(into),
             None => into.fill(0),
         }
         Ok(())

@@ -44,7 +44,7 @@ impl MemoryDisk {
         if place >= self.table.size {
             return Err(DamageRefused::NoSuchPlace { place });
         }
-        if !is_miss_at(&self.table, place, &page)? {
+        if !is_miss_at(&self.table, place, &page) {
             return Err(DamageRefused::NotAMiss { place });
         }
         self.table.damage(place, page)?;
@@ -59,7 +59,7 @@ impl MemoryDisk {
             return Err(MissRefused::NoSuchPlace { place });
         }
         let mut page = Page::zero(self.table.alloc)?;
-        if first_miss_at(&self.table, place, &mut page)? {
+        if first_miss_at(&self.table, place, &mut page) {
             Ok(page)
         } else {
             Err(MissRefused::AllTaken { place })

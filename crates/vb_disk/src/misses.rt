@@ -20,7 +20,7 @@ pub(crate) fn is_miss(cell: &Cell, page: &Page) -> bool
         return false;
     }
     let digest = page_digest(page);
-    if page_digest(&cell.first) == digest {
+    if cell.first.digest() == digest {
         return false;
     }
     all_unlike(cell.later.slice(), digest)

@@ -7,7 +7,7 @@ use Rattle.vb_disk.proofs.memory_calls.MemoryDiskDisk.read.Goals as goal
 
 pub returns-in-Some-clause-bytes : goal.returns-in-Some-clause-bytes
 returns-in-Some-clause-bytes c =
-    c.copy_from.ensures.copied ∙ c.seen.ensures ∙ read_of-known c.pass.new.self.table.cells c.args.place c.in-Some.cell.now c.in-Some.ensures ∙ ap (λ (d : DiskState). read_at d c.args.place) c.in_ok-pass.ensures.state
+    c.read.ensures ∙ read_of-known c.pass.new.self.table.cells c.args.place c.in-Some.cell.now c.in-Some.ensures ∙ ap (λ (d : DiskState). read_at d c.args.place) c.in_ok-pass.ensures.state
 
 pub returns-in-None-clause-bytes : goal.returns-in-None-clause-bytes
 returns-in-None-clause-bytes c =

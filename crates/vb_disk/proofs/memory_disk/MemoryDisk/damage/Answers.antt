@@ -5,7 +5,7 @@ use Rattle.vb_disk.proofs.memory_disk.MemoryDisk.damage.Goals as goal
 pub returns-in_err-damage-clause-err : goal.returns-in_err-damage-clause-err
 returns-in_err-damage-clause-err c =
     let m = c.args.self.now in
-    OnErr-from c.from_residual-in_err-damage.result (record {
+    OnErr-from c.from_residual.result (record {
       state = state_from-kept m.table.size c.damage.new.self.size m.writes m.resizes m.synced_at m.table.cells c.damage.new.self.cells c.in_err-damage.ensures.size c.in_err-damage.ensures.err;
       failures = refl;
       faults = refl;
