@@ -15,6 +15,7 @@ ghost use Rattle.vb_index.specs.Listings.{name_at, AreEntries, AreInPathOrder};
 ghost use Rattle.vb_index.specs.declared.errors.IndexError.TheVariants as IndexErrors;
 ghost use Rattle.vb_index.specs.declared.held.Held.{Held};
 
+mod lengths;
 mod renames;
 
 use crate::grow::{newly_held, place_for};

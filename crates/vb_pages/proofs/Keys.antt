@@ -12,7 +12,7 @@ use Rattle.std.proofs.lemmas.Bool.Decides.{nat_tests}
 use Rattle.std.proofs.lemmas.Cmp.{nat_cmp_total, on_total, then_total}
 use Rattle.vb_pages.specs.declared.kept.KeptPage.{KeptPage}
 use Rattle.vb_pages.specs.declared.kept.PageKey.{PageKey}
-use Rattle.vb_pages.specs.Tables.{key_of, key_order, kept_at, Puts}
+use Rattle.vb_pages.specs.Tables.{key_of, key_order, kept_at, Forgets, Puts}
 
 -- keys are in a total order
 pub key_order-total : IsTotalOrder key_order
@@ -45,6 +45,16 @@ Puts-updated old new slot page kept updates s k =
     ap (option_map (λ (x : KeptPage). x.page)) (updates (key_of s k) ∙ ap (λ b. cond b (Some kept) (kept_at old (key_of s k))) (is_key slot page s k)) ∙ by (s == slot && k == page)
   where
     by : (b : Bool) → option_map (λ (x : KeptPage). x.page) (cond b (Some kept) (kept_at old (key_of s k))) ≡ (if b then Some kept.page else option_map (λ (x : KeptPage). x.page) (kept_at old (key_of s k)))
+    by true = refl
+    by false = refl
+
+-- a table from which one key is gone
+pub Forgets-updated : (old new : List (PageKey × KeptPage)) (slot page : ℕ)
+    → ((q : PageKey) → kept_at new q ≡ cond (is_eq (key_order (key_of slot page) q)) None (kept_at old q)) → Forgets old new slot page
+Forgets-updated old new slot page updates s k =
+    ap (option_map (λ (x : KeptPage). x.page)) (updates (key_of s k) ∙ ap (λ b. cond b None (kept_at old (key_of s k))) (is_key slot page s k)) ∙ by (s == slot && k == page)
+  where
+    by : (b : Bool) → option_map (λ (x : KeptPage). x.page) (cond b None (kept_at old (key_of s k))) ≡ (if b then None else option_map (λ (x : KeptPage). x.page) (kept_at old (key_of s k)))
     by true = refl
     by false = refl
 

@@ -27,6 +27,10 @@ kept_page pages slot page = option_map (λ kept. kept.page) (kept_at pages (key_
 abbrev pub Puts : List (PageKey × KeptPage) → List (PageKey × KeptPage) → ℕ → ℕ → List ℕ → Type 0
 Puts old new slot page bytes = (s k : ℕ) → kept_page new s k ≡ (if s == slot && k == page then Some bytes else kept_page old s k)
 
+-- this page of the slot is gone, and each other one is as it was
+abbrev pub Forgets : List (PageKey × KeptPage) → List (PageKey × KeptPage) → ℕ → ℕ → Type 0
+Forgets old new slot page = (s k : ℕ) → kept_page new s k ≡ (if s == slot && k == page then None else kept_page old s k)
+
 -- the slot has no page from the first one on, and each other one is as it was
 abbrev pub Cuts : List (PageKey × KeptPage) → List (PageKey × KeptPage) → ℕ → ℕ → Type 0
 Cuts old new slot first = (s k : ℕ) → kept_page new s k ≡ (if s == slot && nat_le first k then None else kept_page old s k)

@@ -1,6 +1,6 @@
 // The pages that are kept in memory.
 ghost use Rattle.std.specs.Prelude.{◌≡◌, ◌+◌, ◌^◌, ◌≤◌, [], ℕ, length, None, OnOk, OnErr, IfOk, IfSome, IfNone, IsSome, option_copied};
-ghost use Rattle.vb_pages.specs.Tables.{key_of, kept_at, kept_page, Cuts, Puts, PutsRun};
+ghost use Rattle.vb_pages.specs.Tables.{key_of, kept_at, kept_page, Cuts, Forgets, Puts, PutsRun};
 
 use crate::{KeptPage, PageKey, runs};
 use std::alloc::{AllocError, Global};
@@ -78,6 +78,13 @@ impl PageTable {
         while let Some(key) = next_key(&self.entries, slot, first) {
             self.entries.remove(&key);
         }
+    }
+
+    /// Forgets one page of a slot. It takes no memory.
+    pub fn forget(&mut self, slot: u32, page: u32)
+        ensures { Forgets self.old self.new slot page }
+    {
+        self.entries.remove(&PageKey { slot, page });
     }
 
     /// An equal table.
