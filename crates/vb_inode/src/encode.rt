@@ -30,11 +30,19 @@ pub fn encode_node(alloc: Global, node: &Node) -> Result<Page, AllocError>
     requires { IsInRange node.now }
     ensures { IfOk result (λ page. page ≡ node_page node.now) }
 {
-    let mut writer = PageWriter::new(alloc)?;
+    Ok(encode_node_in(Page::zero(alloc)?, node))
+}
+
+/// The one block of a node, sealed, in a page that is there, whatever that one held. It takes no memory.
+pub fn encode_node_in(page: Page, node: &Node) -> Page
+    requires { IsInRange node.now }
+    ensures { result ≡ node_page node.now }
+{
+    let mut writer = PageWriter::over(page);
     put_node(&mut writer, node);
     let mut page = writer.finish();
     seal(&mut page);
-    Ok(page)
+    page
 }
 
 /// Writes the fields of a node, all but the seal.
@@ -65,7 +73,16 @@ pub fn encode_map(alloc: Global, refs: &[Ref]) -> Result<Page, AllocError>
     requires few { length refs.now ≤ 113 }
     ensures { IfOk result (λ page. page ≡ map_page refs.now) }
 {
-    let mut writer = PageWriter::new(alloc)?;
+    Ok(encode_map_in(Page::zero(alloc)?, refs))
+}
+
+/// The one map page of references, in a page that is there, whatever that one held. It takes no memory.
+pub fn encode_map_in(page: Page, refs: &[Ref]) -> Page
+    requires some { 1 ≤ length refs.now }
+    requires few { length refs.now ≤ 113 }
+    ensures { result ≡ map_page refs.now }
+{
+    let mut writer = PageWriter::over(page);
     writer.put_refs(refs);
-    Ok(writer.finish())
+    writer.finish()
 }

@@ -14,7 +14,7 @@ mod page_writer;
 mod references;
 
 pub use decode::{decode_map, decode_node, node_fault};
-pub use encode::{encode_map, encode_node};
+pub use encode::{encode_map, encode_map_in, encode_node, encode_node_in};
 pub use errors::{MapError, NodeError};
 pub use laws::blocks_tell_what_was_written;
 pub use next_view::{NextNode, NextView, PageSource, Sources};

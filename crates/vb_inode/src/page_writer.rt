@@ -1,10 +1,9 @@
 // Writes a page from its front on.
-ghost use Rattle.std.specs.Prelude.{◌≡◌, ◌+◌, ◌*◌, ◌≤◌, [], ◌++◌, length, replicate, IfOk};
+ghost use Rattle.std.specs.Prelude.{◌≡◌, ◌+◌, ◌*◌, ◌≤◌, [], ◌++◌, length, replicate};
 ghost use Rattle.std.specs.List.{flat_map};
 ghost use Rattle.vb_block.specs.Numbers.{eight_bytes, four_bytes};
 ghost use Rattle.vb_inode.specs.Layout.{padded, ref_bytes};
 
-use std::alloc::{AllocError, Global};
 use std::marker::Model;
 use vb_block::{Page, Ref};
 
@@ -29,14 +28,12 @@ impl Model for PageWriter {
 }
 
 impl PageWriter {
-    /// A page with nothing written.
-    pub(crate) fn new(alloc: Global) -> Result<PageWriter, AllocError>
-        ensures { IfOk result (λ writer. writer ≡ []) }
+    /// Nothing is written yet to a page, whatever it held.
+    pub(crate) fn over(mut page: Page) -> PageWriter
+        ensures { result ≡ [] }
     {
-        Ok(PageWriter {
-            page: Page::zero(alloc)?,
-            at: 0,
-        })
+        page.fill(0);
+        PageWriter { page, at: 0 }
     }
 
     /// Writes these bytes.

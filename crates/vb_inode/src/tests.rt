@@ -201,3 +201,29 @@ fn a_map_page_has_1_to_113_references(rt: HostRuntime) -> Result<(), Fail> {
     assert_eq!(rt; refs.slice(), expected.as_slice());
     Ok(())
 }
+
+/// What the block of a node is in a page that held other bytes, and None where the block is none of a node.
+fn written_over(alloc: Global, page: &Page, mut old: Page) -> Option<Page> {
+    old.fill(0xff);
+    match decode_node(alloc, page, NODES) {
+        Ok(node) => Some(encode_node_in(old, &node)),
+        Err(_) => None,
+    }
+}
+
+#[test]
+fn blocks_are_written_over_what_a_page_held(rt: HostRuntime) -> Result<(), Fail> {
+    let page = file_block(rt.alloc())?;
+    let written = written_over(rt.alloc(), &page, Page::zero(rt.alloc())?).ok_or("a node")?;
+    assert_eq!(rt; written.bytes(), page.bytes());
+    let reference = Ref {
+        place: 3,
+        digest: Digest::of([1; 32]),
+    };
+    let mut old = Page::zero(rt.alloc())?;
+    old.fill(0xff);
+    let map = encode_map_in(old, &[reference]);
+    let fresh = encode_map(rt.alloc(), &[reference])?;
+    assert_eq!(rt; map.bytes(), fresh.bytes());
+    Ok(())
+}

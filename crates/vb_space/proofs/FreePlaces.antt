@@ -4,7 +4,7 @@ use Rattle.std.specs.Prelude.{count_by}
 use Rattle.std.proofs.lemmas.List.Sums.{sum_by-cons}
 use Rattle.vb_space.specs.declared.users.Users.{Users}
 use Rattle.vb_space.specs.declared.users.Users.TheVariants.{Neither, Committed, Next, Both}
-use Rattle.std.proofs.lemmas.List.{append-nil, take_more_set, length-take-le, drop_more, get_or-take}
+use Rattle.std.proofs.lemmas.List.{append-nil, take_more_set, length-take-le, drop_more, get_or-take, get_or-drop, get_or_default}
 use Rattle.std.proofs.Common.{length-drop}
 use Rattle.vb_space.specs.declared.space.Space.TheInside.{Inside}
 use Rattle.vb_space.specs.Free.{is_neither, has_committed, free_from}
@@ -138,11 +138,23 @@ listed_count a kept =
     let rest : length (drop a.from (take a.to a.free.items)) ≡ a.to - a.from = length-drop a.from (take a.to a.free.items) ∙ ap (λ (n : ℕ). n - a.from) cut in
     sym rest ∙ ap length kept.listed ∙ length-free_from a.first a.users.items
 
--- the next of the listed places is their head
-pub listed_head : (a : Inside) (place : ℕ) → IsListed a → a.from < a.to → place ≡ get_or a.free.items a.from place → IsHead a.first a.users.items place (drop (a.from + 1) (take a.to a.free.items))
-listed_head a place kept left is =
+-- the next of the listed places stands before the others
+pub listed_front : (a : Inside) (place : ℕ) → IsListed a → a.from < a.to → place ≡ get_or a.free.items a.from place → free_from a.first a.users.items ≡ place ∷ drop (a.from + 1) (take a.to a.free.items)
+listed_front a place kept left is =
     let cut : length (take a.to a.free.items) ≡ a.to = length-take-le a.to a.free.items kept.to in
     let within : a.from < length (take a.to a.free.items) = omega arith in
     let front : drop a.from (take a.to a.free.items) ≡ get_or (take a.to a.free.items) a.from place ∷ drop (a.from + 1) (take a.to a.free.items) = drop_more (take a.to a.free.items) a.from place within in
     let same : get_or (take a.to a.free.items) a.from place ≡ place = get_or-take a.to a.free.items a.from place left ∙ sym is in
-    head_of a.first a.users.items place (drop (a.from + 1) (take a.to a.free.items)) (sym kept.listed ∙ front ∙ ap (λ (p : ℕ). p ∷ drop (a.from + 1) (take a.to a.free.items)) same)
+    sym kept.listed ∙ front ∙ ap (λ (p : ℕ). p ∷ drop (a.from + 1) (take a.to a.free.items)) same
+
+-- it is their head
+pub listed_head : (a : Inside) (place : ℕ) → IsListed a → a.from < a.to → place ≡ get_or a.free.items a.from place → IsHead a.first a.users.items place (drop (a.from + 1) (take a.to a.free.items))
+listed_head a place kept left is =
+    head_of a.first a.users.items place (drop (a.from + 1) (take a.to a.free.items)) (listed_front a place kept left is)
+
+-- a listed place is the one at its position among the free ones
+pub listed_at : (a : Inside) (ahead place : ℕ) → IsListed a → ahead < count_by is_neither a.users.items → place ≡ get_or a.free.items (a.from + ahead) place → place ≡ get_or (free_from a.first a.users.items) ahead 0
+listed_at a ahead place kept within is =
+    let left : a.from + ahead < a.to = omega (arith, listed_count a kept, kept.from) in
+    let cut : length (take a.to a.free.items) ≡ a.to = length-take-le a.to a.free.items kept.to in
+    is ∙ get_or_default a.free.items (a.from + ahead) place 0 (omega (arith, left, kept.to)) ∙ sym (get_or-take a.to a.free.items (a.from + ahead) 0 left) ∙ sym (get_or-drop a.from (take a.to a.free.items) ahead 0) ∙ ap (λ (r : List ℕ). get_or r ahead 0) kept.listed

@@ -2,7 +2,7 @@
 use Rattle.std.specs.Prelude.{◌≡◌, ℕ, ◌+◌, ◌-◌, ◌<◌, ◌≤◌, List, length, count_by, map, slice_set, slice_index_or, IsTrue}
 use Rattle.vb_space.specs.declared.users.Users.{Users}
 use Rattle.vb_space.specs.declared.users.Users.TheVariants.{Neither}
-use Rattle.vb_space.specs.Free.{has_committed, has_next, is_neither, joined, settled}
+use Rattle.vb_space.specs.Free.{free_from, has_committed, has_next, is_neither, joined, settled}
 
 -- the first data place, and the users of each data place from there on
 pub record DataPlaces : Type 0 where
@@ -48,6 +48,10 @@ next_count s = count_by has_next s.users
 -- how many places neither uses
 abbrev pub free_count : DataPlaces → ℕ
 free_count s = count_by is_neither s.users
+
+-- the places that neither view uses, upwards
+abbrev pub free_places : DataPlaces → List ℕ
+free_places s = free_from s.first s.users
 
 -- the next view uses this place too, and all else stays
 abbrev pub with_next : DataPlaces → ℕ → DataPlaces

@@ -1,5 +1,5 @@
 // The places that two views share.
-ghost use Rattle.std.specs.Prelude.{◌≡◌, ℕ, ◌+◌, ◌<◌, ◌≤◌, ◌↔◌, length, All, Contains, IfOk, IsTrue};
+ghost use Rattle.std.specs.Prelude.{◌≡◌, ℕ, ◌+◌, ◌<◌, ◌≤◌, ◌↔◌, ◌∷◌, length, slice_index_or, All, Contains, IfOk, IsTrue};
 
 use crate::settle::{settle, settle_used};
 use crate::users::Users;
@@ -9,7 +9,7 @@ use std::marker::Model;
 /// The data places of a disk, and which of two views use each: the committed view, and the next one
 /// while it is built. Contracts see the first place and the users of each place from there on.
 ///
-/// `take` is constant, for it takes the next of the free places, which are kept upwards in one list;
+/// `take` and `peek` are constant, for they go by the next of the free places, which are kept upwards in one list;
 /// `commit_done` goes over the places once.
 #[derive(Debug, Drop)]
 pub struct Space {
@@ -34,7 +34,7 @@ impl Model for Space {
 }
 
 impl Space {
-    ghost use Rattle.vb_space.specs.Spaces.{IsCommitted, IsNext, IsLeastFree, committed_count, next_count, free_count, with_next, committed};
+    ghost use Rattle.vb_space.specs.Spaces.{IsCommitted, IsNext, IsLeastFree, committed_count, next_count, free_count, free_places, with_next, committed};
 
     /// The places from `first` on and below `end`, of which the committed view uses these. No next view
     /// is begun.
@@ -73,10 +73,19 @@ impl Space {
         (self.to - self.from) as u32
     }
 
+    /// The place that the take after so many more takes gives, as long as nothing is committed before it.
+    pub fn peek(&self, ahead: u32) -> u32
+        requires { ahead < free_count self.now }
+        ensures { result ≡ slice_index_or (free_places self.now) ahead 0 }
+    {
+        self.free[self.from + ahead as usize]
+    }
+
     /// The least place that neither view uses, which the next view uses from then on.
     pub fn take(&mut self) -> u32
         requires { 1 ≤ free_count self.old }
         ensures least { IsLeastFree self.old result }
+        ensures first { free_places self.old ≡ result ∷ free_places self.new }
         ensures used { self.new ≡ with_next self.old result }
         ensures grows { next_count self.new ≡ next_count self.old + 1 }
         ensures stays { committed_count self.new ≡ committed_count self.old }
@@ -106,6 +115,7 @@ impl Space {
     pub fn keep(&mut self, place: u32)
         requires { IsCommitted self.old place }
         ensures used { self.new ≡ with_next self.old place }
+        ensures same_free { free_places self.new ≡ free_places self.old }
         ensures grows { next_count self.new ≤ next_count self.old + 1 }
         ensures stays { committed_count self.new ≡ committed_count self.old }
     {

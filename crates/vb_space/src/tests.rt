@@ -11,6 +11,15 @@ fn taken(space: &mut Space) -> Option<u32> {
     }
 }
 
+// The place that the take after so many more takes gives, where that many are free.
+fn peeked(space: &Space, ahead: u32) -> Option<u32> {
+    if ahead < space.free() {
+        Some(space.peek(ahead))
+    } else {
+        None
+    }
+}
+
 // Keeps a place, where the committed view uses it.
 fn keep(space: &mut Space, place: u32) -> bool {
     if space.is_committed(place) {
@@ -26,8 +35,11 @@ fn keep(space: &mut Space, place: u32) -> bool {
 fn takes_keeps_and_commits(rt: HostRuntime) -> Result<(), Fail> {
     let mut space = Space::of(rt.alloc(), 10, 16, &[13, 11])?;
     assert_eq!(rt; space.free(), 4);
+    assert_eq!(rt; peeked(&space, 2), Some(14));
+    assert_eq!(rt; peeked(&space, 4), None);
     assert_eq!(rt; taken(&mut space), Some(10));
     assert!(rt; keep(&mut space, 11));
+    assert_eq!(rt; peeked(&space, 1), Some(14));
     assert_eq!(rt; taken(&mut space), Some(12));
     assert_eq!(rt; taken(&mut space), Some(14));
     assert_eq!(rt; space.free(), 1);

@@ -1,7 +1,7 @@
-use Rattle.std.proofs.Common.{◌≡◌, true, ◌-◌, length-set, arith, sym, ◌∙◌, subst}
+use Rattle.std.proofs.Common.{◌≡◌, true, ◌-◌, length-set, arith, ap, sym, ◌∙◌, subst}
 use Rattle.vb_space.specs.declared.users.Users.TheVariants.{Both}
 use Rattle.vb_space.specs.Free.{has_committed}
-use Rattle.vb_space.specs.Spaces.{DataPlaces, users_of}
+use Rattle.vb_space.specs.Spaces.{DataPlaces, free_places, users_of}
 use Rattle.vb_space.proofs.FreePlaces.{free_from-kept}
 use Rattle.vb_space.proofs.space.Space.keep.Goals as goal
 
@@ -17,3 +17,9 @@ invariant_of-self c =
       from = c.self.invariant.from;
       listed = c.self.invariant.listed ∙ sym (free_from-kept a.first a.users.items k used);
     }
+
+pub returns-clause-same_free : goal.returns-clause-same_free
+returns-clause-same_free c =
+    let a = c.self.inside in
+    let used = subst (λ (s : DataPlaces). has_committed (users_of s c.args.place) ≡ true) (sym c.self.view_is) c.requires.used in
+    free_from-kept a.first a.users.items (c.args.place - a.first) used ∙ ap free_places c.self.view_is

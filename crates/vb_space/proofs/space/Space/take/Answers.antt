@@ -1,9 +1,9 @@
-use Rattle.std.proofs.Common.{◌≡◌, ◌<◌, ◌≤◌, ◌-◌, ◌+◌, ℕ, List, drop, take, length-set, arith, sym, ◌∙◌, ap}
+use Rattle.std.proofs.Common.{◌≡◌, ◌<◌, ◌≤◌, ◌-◌, ◌+◌, ℕ, List, ◌∷◌, drop, take, length-set, arith, sym, ◌∙◌, ap}
 use Rattle.vb_space.specs.declared.users.Users.TheVariants.{Next}
 use Rattle.vb_space.specs.declared.space.Space.TheInside.{Inside}
 use Rattle.vb_space.specs.Shown.{IsListed, shown}
-use Rattle.vb_space.specs.Spaces.{DataPlaces, free_count}
-use Rattle.vb_space.proofs.FreePlaces.{listed_count, listed_head}
+use Rattle.vb_space.specs.Spaces.{DataPlaces, free_count, free_places}
+use Rattle.vb_space.proofs.FreePlaces.{listed_count, listed_front, listed_head}
 use Rattle.vb_space.proofs.Seen.{least_free, taken, taken_next, taken_committed}
 use Rattle.vb_space.proofs.space.Space.take.Goals as goal
 
@@ -65,3 +65,10 @@ returns-clause-stays c =
     let a = c.self.inside in
     let some = left a c.args.self.now c.self.view_is c.self.invariant c.requires in
     taken_committed a.first a.users.items c.args.self.now c.index-place.result.now (rest a) c.self.view_is (listed_head a c.index-place.result.now c.self.invariant some c.index-place.ensures)
+
+pub returns-clause-first : goal.returns-clause-first
+returns-clause-first c =
+    let a = c.self.inside in
+    let some = left a c.args.self.now c.self.view_is c.self.invariant c.requires in
+    let head = listed_head a c.index-place.result.now c.self.invariant some c.index-place.ensures in
+    sym (ap free_places c.self.view_is) ∙ listed_front a c.index-place.result.now c.self.invariant some c.index-place.ensures ∙ ap (λ (r : List ℕ). c.index-place.result.now ∷ r) (sym head.without)

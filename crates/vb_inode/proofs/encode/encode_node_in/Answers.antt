@@ -3,7 +3,7 @@ use Rattle.sha2.specs.Sha256.{sha256}
 use Rattle.vb_block.specs.Pages.{sealed_part}
 use Rattle.vb_inode.specs.Layout.{fields_from, node_page, sealed_bytes}
 use Rattle.vb_inode.proofs.Zeros.{take-padded}
-use Rattle.vb_inode.proofs.encode.encode_node.Goals as goal
+use Rattle.vb_inode.proofs.encode.encode_node_in.Goals as goal
 
 pub returns : goal.returns
 unfolding node_page sealed_part
