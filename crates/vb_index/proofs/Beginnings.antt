@@ -11,7 +11,7 @@ use Rattle.vb_index.proofs.Positions.{position-nowhere}
 abbrev pub fresh_list : ℕ → List (Option Held)
 fresh_list n = Some root_held ∷ replicate n None
 
-none_at : (n k : ℕ) → get_or (replicate {A = Option Held} n None) k None ≡ None
+pub none_at : (n k : ℕ) → get_or (replicate {A = Option Held} n None) k None ≡ None
 none_at zero k = refl
 none_at (suc n) zero = refl
 none_at (suc n) (suc k) = none_at n k

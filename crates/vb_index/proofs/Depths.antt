@@ -19,11 +19,12 @@ use Rattle.vb_tree.specs.Renames.{is_within, is_deep, moved_path, makes_deep}
 use Rattle.vb_tree.proofs.Within.{within-parts, within-append, some_parts}
 use Rattle.vb_tree.proofs.MovedPaths.{text-append}
 use Rattle.vb_index.specs.declared.held.Held.{Held}
+use Rattle.vb_index.specs.Heights.{FitsBelow}
 use Rattle.vb_index.specs.Nodes.{held_at, child_of, slot_at, slot_below, IsTable}
 use Rattle.vb_index.specs.Indexes.{shape_of, shape_at, shape_of_entry, HasShapeOf}
 use Rattle.vb_index.proofs.ChildLaws.{same_name-Decides, child_of-Some}
-use Rattle.vb_index.proofs.Growth.{slot_holds}
-use Rattle.vb_index.proofs.Walks.{walk-snoc}
+use Rattle.vb_index.proofs.Growth.{below_root, slot_holds}
+use Rattle.vb_index.proofs.Walks.{and_then-parts, walk-snoc}
 
 -- whether an entry would be too deep
 abbrev deep_entry : List (List ℕ) → List (List ℕ) → List (List ℕ) → Bool
@@ -138,8 +139,9 @@ child-found nodes tree source name rest slot shape below at found = by (child_of
 -- below a name in a slot's folder, nothing would be too deep
 pub record IsShallow (nodes : List (Option Held)) (slot bytes parts : ℕ) (name : List ℕ) : Type 0 where
   pub shallow : (tree : List TreeEntry) (source target : List (List ℕ)) → HasShapeOf nodes tree → slot_at nodes source ≡ Some slot → is_root source ≡ false → is_root target ≡ false → length (text_of_path target) ≡ bytes → length target ≡ parts → makes_deep (source ++ name ∷ []) (target ++ name ∷ []) tree ≡ false
+  pub fits : (k : ℕ) → child_of nodes slot name ≡ Some k → FitsBelow nodes k (bytes + 1 + length name) (parts + 1)
 
-deep-numbers : (target : List (List ℕ)) (bytes parts : ℕ) → length (text_of_path target) ≡ bytes → length target ≡ parts → is_deep target ≡ (nat_lt 1024 bytes || nat_lt 32 parts)
+pub deep-numbers : (target : List (List ℕ)) (bytes parts : ℕ) → length (text_of_path target) ≡ bytes → length target ≡ parts → is_deep target ≡ (nat_lt 1024 bytes || nat_lt 32 parts)
 deep-numbers target bytes parts b p = ap (λ n. nat_lt 1024 n || nat_lt 32 (length target)) b ∙ ap (λ n. nat_lt 1024 bytes || nat_lt 32 n) p
 
 -- the node itself is too deep
@@ -179,6 +181,14 @@ text-more target name below = ap length (text-append target (name ∷ []) below)
 -- a child's own answer, for the folder that it is in
 pub child-at : (nodes : List (Option Held)) (source : List (List ℕ)) (name : List ℕ) (slot child : ℕ) → slot_at nodes source ≡ Some slot → child_of nodes slot name ≡ Some child → slot_at nodes (source ++ name ∷ []) ≡ Some child
 child-at nodes source name slot child at is = walk-snoc (child_of nodes) 0 source name ∙ ap (option_and_then (λ t. child_of nodes t name)) at ∙ is
+
+-- where neither a slot's node nor what is below its entries is too deep, nothing below it is
+pub fits-below : (nodes : List (Option Held)) (slot bytes parts : ℕ) → (nat_lt 1024 bytes || nat_lt 32 parts) ≡ false → ((name : List ℕ) (k : ℕ) → child_of nodes slot name ≡ Some k → FitsBelow nodes k (bytes + 1 + length name) (parts + 1)) → FitsBelow nodes slot bytes parts
+fits-below nodes slot bytes parts h all target [] found to b p walk = ap is_deep (append-nil target) ∙ deep-numbers target bytes parts b p ∙ h
+fits-below nodes slot bytes parts h all target (name ∷ rest) found to b p walk =
+    let step = and_then-parts (λ t. slot_below (child_of nodes) t rest) (child_of nodes slot name) found walk in
+    ap is_deep (sym (append_assoc target (name ∷ []) rest))
+    ∙ all name step.0 step.1 (target ++ name ∷ []) rest found (below_root target name) (text-more target name to ∙ omega (arith, b)) (omega (arith, length-append target (name ∷ []), p)) step.2
 
 -- ---- over a folder's map
 

@@ -16,6 +16,7 @@ use Rattle.std.proofs.lemmas.List.{length-set, length-replicate}
 use Rattle.vb_tree.specs.Trees.{pages_of_length}
 use Rattle.vb_index.specs.declared.held.Held.{Held}
 use Rattle.vb_index.specs.declared.table.Table.TheInside.{Inside}
+use Rattle.vb_index.specs.Heights.{IsRooted}
 use Rattle.vb_index.specs.Nodes.{root_held, held_at, same_name, child_of, nodes_of_slot, nodes_in, pages_of_slot, pages_in, IsTable}
 use Rattle.vb_index.specs.Tables.{IsKept}
 use Rattle.vb_index.specs.Indexes.{IsLeastFree}
@@ -58,10 +59,11 @@ no_and : (b : Bool) → (b && false) ≡ false
 no_and true = refl
 no_and false = refl
 
-pub kept-fill : (a b : Inside) (slot : ℕ) (held : Held) → IsKept a → Fills a.nodes.items slot held → IsFilled a b slot held → IsKept b
-kept-fill a b slot held k f s =
+pub kept-fill : (a b : Inside) (slot : ℕ) (held : Held) → IsKept a → Fills a.nodes.items slot held → IsRooted (set a.nodes.items slot (Some held)) → IsFilled a b slot held → IsKept b
+kept-fill a b slot held k f r s =
     record {
       table = subst IsTable (sym s.nodes) (IsTable-fill a.nodes.items slot held k.table f.there f.above_root f.free f.in_folder f.new_name f.fits);
+      rooted = subst IsRooted (sym s.nodes) r;
       maps = s.maps ∙ k.maps ∙ sym len;
       found = found;
       free = free;
@@ -97,10 +99,11 @@ pub record IsEmptied (a b : Inside) (slot : ℕ) (held : Held) : Type 0 where
   pub count : b.count + 1 ≡ a.count
   pub pages : b.pages + pages_of_length held.node.length ≡ a.pages
 
-pub kept-empty : (a b : Inside) (slot : ℕ) (held : Held) → IsKept a → Leaves a.nodes.items slot held → IsEmptied a b slot held → IsKept b
-kept-empty a b slot held k f s =
+pub kept-empty : (a b : Inside) (slot : ℕ) (held : Held) → IsKept a → Leaves a.nodes.items slot held → IsRooted (set a.nodes.items slot None) → IsEmptied a b slot held → IsKept b
+kept-empty a b slot held k f r s =
     record {
       table = subst IsTable (sym s.nodes) (IsTable-empty a.nodes.items slot held k.table f.there f.above_root f.holds f.bare);
+      rooted = subst IsRooted (sym s.nodes) r;
       maps = s.maps ∙ k.maps ∙ sym len;
       found = found;
       free = free;
@@ -171,6 +174,7 @@ kept-same a b k nodes maps found free count pages =
     let items : b.nodes.items ≡ a.nodes.items = ap (λ v. v.items) nodes in
     record {
       table = subst IsTable (sym items) k.table;
+      rooted = subst IsRooted (sym items) k.rooted;
       maps = maps ∙ k.maps ∙ sym (ap length items);
       found = λ parent name d l. found parent name d (omega (arith, k.maps, ap length items)) ∙ k.found parent name d (omega (arith, ap length items)) ∙ sym (ap (λ ns. child_of ns parent name) items);
       free = λ q. ap (λ s. sorted.contains nat_cmp s q) free ∙ k.free q ∙ sym (ap (λ ns. nat_lt q (length ns) && is_none (held_at ns q)) items);
@@ -179,10 +183,11 @@ kept-same a b k nodes maps found free count pages =
     }
 
 -- a root and nothing else
-pub kept-fresh : (a : Inside) (n : ℕ) → a.nodes.items ≡ Some root_held ∷ replicate n None → n + 1 ≤ 65536 → vec_len a.children ≡ n + 1 → ((folder : ℕ) (name : List ℕ) (d : tree.BTreeMap (List ℕ) ℕ) → folder < n + 1 → tree.get (slice_cmp nat_cmp) (get_or a.children.items folder d) name ≡ None) → ((q : ℕ) → sorted.contains nat_cmp a.free q ≡ (nat_lt 0 q && nat_lt q (n + 1))) → a.count ≡ 1 → a.pages ≡ 0 → IsKept a
-kept-fresh a n items few maps found free count pages =
+pub kept-fresh : (a : Inside) (n : ℕ) → a.nodes.items ≡ Some root_held ∷ replicate n None → n + 1 ≤ 65536 → IsRooted (Some root_held ∷ replicate n None) → vec_len a.children ≡ n + 1 → ((folder : ℕ) (name : List ℕ) (d : tree.BTreeMap (List ℕ) ℕ) → folder < n + 1 → tree.get (slice_cmp nat_cmp) (get_or a.children.items folder d) name ≡ None) → ((q : ℕ) → sorted.contains nat_cmp a.free q ≡ (nat_lt 0 q && nat_lt q (n + 1))) → a.count ≡ 1 → a.pages ≡ 0 → IsKept a
+kept-fresh a n items few rooted maps found free count pages =
     record {
       table = subst IsTable (sym items) (fresh-table n few);
+      rooted = subst IsRooted (sym items) rooted;
       maps = maps ∙ sym len;
       found = λ parent name d l. found parent name d (omega (arith, len)) ∙ sym (ap (λ ns. child_of ns parent name) items ∙ fresh-child n parent name);
       free = λ q. free q ∙ fresh-free n q ∙ sym (ap (λ ns. nat_lt q (length ns) && is_none (held_at ns q)) items);

@@ -6,6 +6,7 @@ pub mod Contents
 pub mod Copying
 pub mod Depths
 pub mod Growth
+pub mod Heights
 pub mod Kept
 pub mod Leaving
 pub mod MoveChecks

@@ -94,7 +94,7 @@ place-differs nodes slot held folder name source at table m below source_at ther
         ])
       ])
 
-root_is : (path : List (List ℕ)) → is_root path ≡ true → path ≡ []
+pub root_is : (path : List (List ℕ)) → is_root path ≡ true → path ≡ []
 root_is [] h = refl
 root_is (x ∷ xs) h = absurd (false≢true (sym (some_parts (x ∷ xs) (omega arith)) ∙ h))
 

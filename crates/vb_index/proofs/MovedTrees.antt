@@ -35,14 +35,14 @@ before-out source target path h g = ap (λ v. cond v (Some (moved_path target so
 pub moved-rest : (from to rest : List (List ℕ)) → moved_path from to (from ++ rest) ≡ to ++ rest
 moved-rest from to rest = ap (λ r. to ++ r) (drop-append_seam from rest)
 
-after-in : (source target path : List (List ℕ)) → is_within source path ≡ true → path_after source target path ≡ moved_path source target path
+pub after-in : (source target path : List (List ℕ)) → is_within source path ≡ true → path_after source target path ≡ moved_path source target path
 after-in source target path h = ap (λ v. cond v (moved_path source target path) path) h
 
-after-out : (source target path : List (List ℕ)) → is_within source path ≡ false → path_after source target path ≡ path
+pub after-out : (source target path : List (List ℕ)) → is_within source path ≡ false → path_after source target path ≡ path
 after-out source target path h = ap (λ v. cond v (moved_path source target path) path) h
 
 -- a path that wasn't within the target is where its path after the rename stood
-path-back : (source target path : List (List ℕ)) → is_within target path ≡ false → path_before source target (path_after source target path) ≡ Some path
+pub path-back : (source target path : List (List ℕ)) → is_within target path ≡ false → path_before source target (path_after source target path) ≡ Some path
 path-back source target path out = elim (cases_Bool (is_within source path)) [
   | inl h ↦ (let rest = drop (length source) path in
       let is : path_after source target path ≡ target ++ rest = after-in source target path h in

@@ -12,6 +12,7 @@ use Rattle.std.proofs.lemmas.List.{length-set, set-set}
 use Rattle.vb_tree.specs.Trees.{pages_of_length}
 use Rattle.vb_index.specs.declared.held.Held.{Held}
 use Rattle.vb_index.specs.declared.table.Table.TheInside.{Inside}
+use Rattle.vb_index.specs.Heights.{IsRooted}
 use Rattle.vb_index.specs.Nodes.{held_at, holds_folder, same_name, is_child, child_of, nodes_of_slot, nodes_in, pages_of_slot, pages_in, IsHeld, IsTable}
 use Rattle.vb_index.specs.Moves.{placed_in, MayPlace, MayReplace}
 use Rattle.vb_index.specs.Tables.{IsKept}
@@ -147,10 +148,11 @@ sums_same nodes slot held folder name l holds =
     let p = pages_in-set nodes slot (Some (placed_in folder name held)) l in
     (omega (arith, n, ap nodes_of_slot holds), omega (arith, p, ap pages_of_slot holds))
 
-pub kept-place : (a b : Inside) (slot : ℕ) (held : Held) (folder : ℕ) (name : List ℕ) → IsKept a → Moves a.nodes.items slot held folder name → IsPlaced a b slot held folder name → IsKept b
-kept-place a b slot held folder name k m s =
+pub kept-place : (a b : Inside) (slot : ℕ) (held : Held) (folder : ℕ) (name : List ℕ) → IsKept a → Moves a.nodes.items slot held folder name → IsRooted (set a.nodes.items slot (Some (placed_in folder name held))) → IsPlaced a b slot held folder name → IsKept b
+kept-place a b slot held folder name k m r s =
     record {
       table = subst IsTable (sym s.nodes) (IsTable-place a.nodes.items slot held folder name k.table m);
+      rooted = subst IsRooted (sym s.nodes) r;
       maps = s.maps ∙ k.maps ∙ sym len;
       found = found;
       free = free;
@@ -247,10 +249,11 @@ over_old old true slot x = refl
 over_old true false slot x = refl
 over_old false false slot x = refl
 
-pub kept-replace : (a b : Inside) (slot : ℕ) (held : Held) (other : ℕ) (gone : Held) (folder : ℕ) (name : List ℕ) → IsKept a → Replaces a.nodes.items slot held other gone folder name → IsReplaced a b slot held other gone folder name → IsKept b
-kept-replace a b slot held other gone folder name k r s =
+pub kept-replace : (a b : Inside) (slot : ℕ) (held : Held) (other : ℕ) (gone : Held) (folder : ℕ) (name : List ℕ) → IsKept a → Replaces a.nodes.items slot held other gone folder name → IsRooted (set (set a.nodes.items other None) slot (Some (placed_in folder name held))) → IsReplaced a b slot held other gone folder name → IsKept b
+kept-replace a b slot held other gone folder name k r rooted s =
     record {
       table = subst IsTable (sym s.nodes) (IsTable-place (set a.nodes.items other None) slot held folder name less m);
+      rooted = subst IsRooted (sym s.nodes) rooted;
       maps = s.maps ∙ k.maps ∙ sym len;
       found = found;
       free = free;

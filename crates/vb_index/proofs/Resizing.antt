@@ -22,6 +22,7 @@ use Rattle.vb_block.specs.declared.digest.Ref.{Ref}
 use Rattle.vb_index.specs.declared.held.Held.{Held}
 use Rattle.vb_index.specs.declared.table.Table.TheInside.{Inside}
 use Rattle.vb_index.specs.Nodes.{is_folder_node, is_file_node, kind_of, held_at, holds_folder, refs_of, refs_at, same_name, is_child, child_of, slot_at, nodes_of_slot, nodes_in, pages_of_slot, pages_in, IsHeld, IsTable}
+use Rattle.vb_index.specs.Heights.{IsRooted}
 use Rattle.vb_index.specs.Changes.{blank_ref, resized, with_ref, IsFileAt}
 use Rattle.vb_index.specs.Tables.{IsKept}
 use Rattle.vb_index.specs.Indexes.{Shape, shape_of, shape_at, shape_of_entry, shape_in, HasShapeOf}
@@ -118,10 +119,11 @@ pub slot_at-kept : (nodes : List (Option Held)) (slot : ℕ) (old new : Held) �
 slot_at-kept nodes slot old new c path = walk-same (child_of nodes) (child_of (set nodes slot (Some new))) (child-kept nodes slot old new c) path 0
 
 -- what is kept beside the nodes stays, but for the pages
-pub kept-changed : (a b : Inside) (slot : ℕ) (old new : Held) → IsKept a → Changes a.nodes.items slot old new → b.nodes.items ≡ set a.nodes.items slot (Some new) → b.children ≡ a.children → b.free ≡ a.free → b.count ≡ a.count → b.pages + pages_of_length old.node.length ≡ a.pages + pages_of_length new.node.length → IsKept b
-kept-changed a b slot old new k c items children free count pages =
+pub kept-changed : (a b : Inside) (slot : ℕ) (old new : Held) → IsKept a → Changes a.nodes.items slot old new → IsRooted (set a.nodes.items slot (Some new)) → b.nodes.items ≡ set a.nodes.items slot (Some new) → b.children ≡ a.children → b.free ≡ a.free → b.count ≡ a.count → b.pages + pages_of_length old.node.length ≡ a.pages + pages_of_length new.node.length → IsKept b
+kept-changed a b slot old new k c rooted items children free count pages =
     record {
       table = subst IsTable (sym items) (IsTable-changed a.nodes.items slot old new k.table c);
+      rooted = subst IsRooted (sym items) rooted;
       maps = ap vec_len children ∙ k.maps ∙ sym len;
       found = λ parent name d l. ap (λ cs. tree.get (slice_cmp nat_cmp) (get_or cs.items parent d) name) children ∙ k.found parent name d (omega (arith, len)) ∙ sym (ap (λ ns. child_of ns parent name) items ∙ child-kept a.nodes.items slot old new c parent name);
       free = λ q. ap (λ s. sorted.contains nat_cmp s q) free ∙ k.free q ∙ sym (ap (λ n. nat_lt q n && is_none (held_at b.nodes.items q)) len ∙ ap (λ v. nat_lt q (length a.nodes.items) && v) (ap (λ ns. is_none (held_at ns q)) items ∙ none-kept a.nodes.items slot old new c q));

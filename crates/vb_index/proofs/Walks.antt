@@ -23,7 +23,7 @@ snoc-inj (b ∷ q) (a ∷ p) y x e = let below = snoc-inj q p y x cc in (cc, bel
 snoc-longer : {A : Type 0} (p : List A) (x : A) → p ≡ p ++ x ∷ [] → ⊥
 snoc-longer p x e = omega (arith, ap length e, length-append p (x ∷ []))
 
-and_then-parts : {A B : Type 0} (f : A → Option B) (o : Option A) (k : B) → option_and_then f o ≡ Some k → (t : A) × (o ≡ Some t) × (f t ≡ Some k)
+pub and_then-parts : {A B : Type 0} (f : A → Option B) (o : Option A) (k : B) → option_and_then f o ≡ Some k → (t : A) × (o ≡ Some t) × (f t ≡ Some k)
 and_then-parts f None k h = absurd cc
 and_then-parts f (Some t) k h = (t, refl, h)
 

@@ -12,6 +12,7 @@ use Rattle.vb_tree.specs.Trees.{is_root, entry_at, parent_of, name_of, node_coun
 use Rattle.vb_index.specs.declared.errors.IndexError.{IndexError}
 use Rattle.vb_index.specs.declared.errors.IndexError.TheVariants.{Refused, Memory}
 use Rattle.vb_index.specs.declared.held.Held.{Held}
+use Rattle.vb_index.specs.Heights.{IsRooted}
 use Rattle.vb_index.specs.Nodes.{kind_of, held_at, holds_folder, child_of, slot_at, nodes_in, pages_in, IsTable}
 
 -- an index: its limits, and what each slot holds
@@ -79,3 +80,4 @@ pub record IsPlace (nodes : List (Option Held)) (path : List (List ℕ)) (folder
   pub in_folder : holds_folder (held_at nodes folder) ≡ true
   pub new_name : child_of nodes folder (name_of path) ≡ None
   pub room : nodes_in nodes < length nodes
+  pub rooted : IsRooted nodes

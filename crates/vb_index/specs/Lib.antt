@@ -1,5 +1,6 @@
 pub mod Changes
 pub mod Contents
+pub mod Heights
 pub mod Indexes
 pub mod Listings
 pub mod Moves

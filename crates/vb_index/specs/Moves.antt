@@ -5,6 +5,7 @@ use Rattle.vb_path.specs.Paths.{same_path}
 use Rattle.vb_tree.specs.Trees.{parent_of, name_of}
 use Rattle.vb_tree.specs.Renames.{is_within}
 use Rattle.vb_index.specs.declared.held.Held.{Held}
+use Rattle.vb_index.specs.Heights.{IsRooted}
 use Rattle.vb_index.specs.Nodes.{held_at, holds_folder, child_of, slot_at, IsTable}
 
 -- what is held of a node, once it has this name in this folder
@@ -64,3 +65,4 @@ pub record IsMove (nodes : List (Option Held)) (source target : List (List ℕ))
   pub outside : (holds_folder (held_at nodes slot) && is_within source target) ≡ false
   pub taken : child_of nodes folder (name_of target) ≡ replaced
   pub not_blocked : blocks nodes slot replaced ≡ false
+  pub rooted : IsRooted nodes

@@ -1,5 +1,5 @@
 // The index: limits, and nodes with the references of their pages.
-ghost use Rattle.std.specs.Prelude.{◌≡◌, ◌++◌, ◌-◌, ◌<◌, ◌≤◌, true, replicate, length, unwrap_or, slice_set, [], ◌∷◌, map, List, ℕ, Option, Some, None, Err, IfOk, OnOk, OnErr};
+ghost use Rattle.std.specs.Prelude.{◌≡◌, ◌++◌, ◌-◌, ◌<◌, ◌≤◌, true, false, replicate, length, unwrap_or, slice_set, [], ◌∷◌, map, List, ℕ, Option, Some, None, Err, IfOk, OnOk, OnErr};
 ghost use Rattle.std.specs.Option.{option_copied, option_map, option_or};
 ghost use Rattle.std.specs.Result.{result_err};
 ghost use Rattle.vb_path.specs.Paths.{IsPath};
@@ -7,6 +7,9 @@ ghost use Rattle.vb_tree.specs.declared.reply.Refusal.{Refusal};
 ghost use Rattle.vb_tree.specs.declared.tree.TreeEntry.{TreeEntry};
 ghost use Rattle.vb_tree.specs.Trees.{longest_file, data_pages_of, insert_entry, with_bytes_at, without, parent_of, name_of, names_in, AreInLimits, IsTree};
 ghost use Rattle.vb_tree.specs.Refusals.{refuse_new, refuse_missing, refuse_unless_file, refuse_resize, refusal_of};
+ghost use Rattle.vb_path.specs.Parts.{IsPart};
+ghost use Rattle.vb_tree.specs.Renames.{is_deep};
+ghost use Rattle.vb_index.specs.Heights.{path_to, IsRooted};
 ghost use Rattle.vb_index.specs.Nodes.{root_held, refs_at, held_at, holds_folder, child_of, slot_at, nodes_in, pages_in, IsHeld, IsTable};
 ghost use Rattle.vb_index.specs.Indexes.{shape_of, shape_of_entry, HasShapeOf, IsAnswer, IsLeastFree, new_held};
 ghost use Rattle.vb_index.specs.Changes.{removal_of, resized, with_ref, IsFileAt};
@@ -87,6 +90,7 @@ impl Index {
     pub fn count(&self) -> u32
         ensures count { result ≡ nodes_in self.now.nodes }
         ensures table { IsTable self.now.nodes }
+        ensures rooted { IsRooted self.now.nodes }
     {
         self.table.count()
     }
@@ -249,6 +253,8 @@ impl Index {
         requires in_folder { holds_folder (held_at self.old.nodes node.parent) ≡ true }
         requires new_name { child_of self.old.nodes node.parent node.name ≡ None }
         requires fits { IsHeld node.slot (record { node = node; refs = refs }) }
+        requires valid { IsPart node.name }
+        requires shallow { is_deep (path_to self.old.nodes node.parent ++ node.name ∷ []) ≡ false }
         ensures tree { (tree : List TreeEntry) (folder : List (List ℕ)) (entry : TreeEntry)
             → HasShapeOf self.old.nodes tree
             → slot_at self.old.nodes folder ≡ Some node.parent

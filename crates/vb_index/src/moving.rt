@@ -11,6 +11,7 @@ ghost use Rattle.vb_tree.specs.Refusals.{refuse, refuse_way, refuse_missing, ref
 ghost use Rattle.vb_tree.specs.Renames.{is_within, makes_deep};
 ghost use Rattle.vb_index.specs.Nodes.{held_at, holds_folder, slot_at, IsTable};
 ghost use Rattle.vb_index.specs.Indexes.{HasShapeOf};
+ghost use Rattle.vb_index.specs.Heights.{FitsBelow, StaysShallow, MayStand, IsRooted};
 ghost use Rattle.vb_index.specs.Moves.{blocks, with_place, without_slot, IsMove, MayPlace, MayReplace};
 
 use crate::table::Table;
@@ -59,6 +60,7 @@ pub(crate) fn check_move(
     ensures refused { (tree : List TreeEntry) → HasShapeOf table.now tree
         → refuse_move tree source.now target.now ≡ result_err result }
     ensures found { IfOk result (λ place. IsMove table.now source.now target.now slot place.folder place.replaced) }
+    ensures shallow { OnOk result (StaysShallow table.now source.now target.now) }
 {
     let place = find_place(table, slot, source.parts(), target.parts())?;
     if leads_too_deep(table, slot, target.text().len(), target.parts().len()) {
@@ -77,6 +79,7 @@ pub(crate) fn put_in_place(
 ) -> Result<(), AllocError>
     requires free { place.replaced ≡ None → MayPlace table.old slot place.folder name.now }
     requires taken { (other : ℕ) → place.replaced ≡ Some other → MayReplace table.old slot other place.folder name.now }
+    requires stands { MayStand table.old slot place.folder name.now }
     ensures ok { OnOk result (table.new ≡ with_place (without_slot table.old place.replaced) slot place.folder name.now) }
     ensures err { OnErr result (table.new ≡ table.old) }
 {
@@ -125,6 +128,7 @@ fn is_into_itself(table: &Table, slot: u32, source: &[Bytes], target: &[Bytes]) 
 fn is_blocked(table: &Table, slot: u32, taken: Option<u32>) -> bool
     ensures blocked { result ≡ blocks table.now slot taken }
     ensures table { IsTable table.now }
+    ensures rooted { IsRooted table.now }
 {
     let folder = table.is_folder(slot);
     match taken {
@@ -153,11 +157,12 @@ pub(crate) fn last_of(parts: &[Bytes]) -> &Bytes
 fn leads_too_deep(table: &Table, slot: u32, bytes: usize, parts: usize) -> bool
     requires in_table { slot < length table.now }
     requires few { parts ≤ 33 }
-    ensures { (tree : List TreeEntry) (source target : List (List ℕ)) → HasShapeOf table.now tree
+    ensures deep { (tree : List TreeEntry) (source target : List (List ℕ)) → HasShapeOf table.now tree
         → slot_at table.now source ≡ Some slot
         → is_root source ≡ false → is_root target ≡ false
         → length (text_of_path target) ≡ bytes → length target ≡ parts
         → makes_deep source target tree ≡ result }
+    ensures fits { result ≡ false → FitsBelow table.now slot bytes parts }
 {
     let below = table.entries(slot);
     if is_deep(bytes, parts) {

@@ -1,6 +1,9 @@
 // The table of nodes: by slot, and by folder and name.
-ghost use Rattle.std.specs.Prelude.{◌≡◌, ◌-◌, ◌<◌, ◌≤◌, true, [], ◌∷◌, replicate, length, unwrap_or, Some, None, IsSome, IsTrue, ◌↔◌, List, ℕ, IfOk, IsOk, OnOk, OnErr, slice_set};
+ghost use Rattle.std.specs.Prelude.{◌≡◌, ◌-◌, ◌<◌, ◌≤◌, true, false, [], ◌∷◌, ◌++◌, replicate, length, unwrap_or, Some, None, IsSome, IsTrue, ◌↔◌, List, ℕ, IfOk, IsOk, OnOk, OnErr, slice_set};
 ghost use Rattle.std.specs.Option.{option_copied, option_and_then};
+ghost use Rattle.vb_path.specs.Parts.{IsPart};
+ghost use Rattle.vb_tree.specs.Renames.{is_deep};
+ghost use Rattle.vb_index.specs.Heights.{path_to, IsRooted};
 ghost use Rattle.vb_index.specs.Nodes.{root_held, held_at, holds_folder, refs_at, child_of, nodes_in, pages_in, IsHeld, IsTable};
 ghost use Rattle.vb_index.specs.Indexes.{IsLeastFree};
 ghost use Rattle.vb_index.specs.Changes.{resized, with_ref, IsBare};
@@ -77,6 +80,7 @@ impl Table {
     pub fn count(&self) -> u32
         ensures count { result ≡ nodes_in self.now }
         ensures table { IsTable self.now }
+        ensures rooted { IsRooted self.now }
     {
         self.count
     }
@@ -131,6 +135,7 @@ impl Table {
     pub fn is_folder(&self, slot: u32) -> bool
         ensures folder { result ≡ holds_folder (held_at self.now slot) }
         ensures table { IsTable self.now }
+        ensures rooted { IsRooted self.now }
     {
         match held_in(&self.nodes, slot as usize) {
             Some(held) => held.node.kind == NodeKind::Folder,
@@ -208,6 +213,8 @@ impl Table {
         requires in_folder { holds_folder (held_at self.old held.node.parent) ≡ true }
         requires new_name { child_of self.old held.node.parent held.node.name ≡ None }
         requires fits { IsHeld held.node.slot held }
+        requires valid { IsPart held.node.name }
+        requires shallow { is_deep (path_to self.old held.node.parent ++ held.node.name ∷ []) ≡ false }
         ensures ok { OnOk result (self.new ≡ slice_set self.old held.node.slot (Some held)) }
         ensures table { OnOk result (IsTable self.old) }
         ensures err { OnErr result (self.new ≡ self.old) }

@@ -5,6 +5,7 @@ ghost use Rattle.std.specs.Ordering.{nat_cmp};
 ghost use Rattle.std.specs.Cmp.Lexicographic.{slice_cmp};
 ghost use Rattle.vb_index.specs.declared.held.Held.{Held};
 ghost use Rattle.vb_index.specs.Nodes.{held_at, child_of, IsTable};
+ghost use Rattle.vb_index.specs.Heights.{MayStand};
 ghost use Rattle.vb_index.specs.Moves.{with_place, MayPlace, MayReplace};
 
 use super::{Table, held_in};
@@ -31,7 +32,8 @@ impl Table {
         folder: u32,
         name: Bytes,
     ) -> Result<(), AllocError>
-        requires { MayPlace self.old slot folder name }
+        requires place { MayPlace self.old slot folder name }
+        requires stands { MayStand self.old slot folder name }
         ensures ok { OnOk result (self.new ≡ with_place self.old slot folder name) }
         ensures err { OnErr result (self.new ≡ self.old) }
     {
@@ -54,7 +56,8 @@ impl Table {
         folder: u32,
         name: Bytes,
     ) -> Result<(), AllocError>
-        requires { MayReplace self.old slot other folder name }
+        requires place { MayReplace self.old slot other folder name }
+        requires stands { MayStand self.old slot folder name }
         ensures ok { OnOk result (self.new ≡ with_place (slice_set self.old other None) slot folder name) }
         ensures err { OnErr result (self.new ≡ self.old) }
     {

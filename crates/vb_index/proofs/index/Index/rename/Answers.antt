@@ -2,7 +2,9 @@ use Rattle.std.proofs.Common.{◌≡◌, ℕ, List, Option, sym, ap, ◌∙◌, 
 use Rattle.vb_index.specs.declared.held.Held.{Held}
 use Rattle.vb_tree.specs.Trees.{name_of}
 use Rattle.vb_index.specs.Indexes.{IndexState, HasShapeOf}
+use Rattle.vb_index.specs.Heights.{MayStand}
 use Rattle.vb_index.specs.Moves.{with_place, without_slot, renamed_nodes, replaced_slot, MayPlace, MayReplace}
+use Rattle.vb_index.proofs.Heights.{may-stand}
 use Rattle.vb_index.proofs.MovedShapes.{renamed-shape}
 use Rattle.vb_index.proofs.Renamed.{may-place, may-replace, renamed-is, replaced-is}
 use Rattle.vb_index.specs.Contents.{HasTree}
@@ -20,6 +22,12 @@ put_in_place-requires-clause-taken c = λ other is.
     let P : List ℕ → Type 0 = λ name. MayReplace c.self.inside.table c.in_ok-slot.slot other c.in_ok-place.place.folder name in
     subst P (sym (c.last_of-name.ensures ∙ ap name_of c.parts.ensures.same))
     (may-replace c.self.inside.table c.args.source.now c.args.target.now c.in_ok-slot.slot c.in_ok-place.place.folder c.in_ok-place.place.replaced other c.in_ok-slot.ensures.source c.in_ok-slot.ensures.target (sym c.eq.ensures ∙ c.if-eq.false) c.in_ok-slot.ensures.found c.in_ok-place.ensures.found is)
+
+pub put_in_place-requires-clause-stands : goal.put_in_place-requires-clause-stands
+put_in_place-requires-clause-stands c =
+    let P : List ℕ → Type 0 = λ name. MayStand c.self.inside.table c.in_ok-slot.slot c.in_ok-place.place.folder name in
+    subst P (sym (c.last_of-name.ensures ∙ ap name_of c.parts.ensures.same))
+    (may-stand c.self.inside.table c.args.source.now c.args.target.now c.in_ok-slot.slot c.in_ok-place.place.folder c.in_ok-place.place.replaced c.parts.ensures.valid c.in_ok-slot.ensures.target c.in_ok-slot.ensures.found c.in_ok-place.ensures.found c.in_ok-place.ensures.shallow)
 
 pub returns-clause-nodes : goal.returns-clause-nodes
 returns-clause-nodes c =

@@ -1,10 +1,13 @@
-use Rattle.std.proofs.Common.{◌+◌, ◌&&◌, ◌==◌, cond, List, get_or, Option, Some, refl, sym, ap, ◌∙◌, subst}
+use Rattle.std.proofs.Common.{◌≡◌, ◌+◌, ◌∷◌, ◌++◌, [], false, ◌&&◌, ◌==◌, cond, List, get_or, Option, Some, refl, sym, ap, ◌∙◌, subst}
 use Rattle.std.specs.BTreeMap as tree
 use Rattle.std.specs.Ordering.{nat_cmp}
 use Rattle.std.specs.Cmp.Lexicographic.{slice_cmp}
 use Rattle.vb_index.specs.declared.held.Held.{Held}
+use Rattle.vb_tree.specs.Renames.{is_deep}
+use Rattle.vb_index.specs.Heights.{path_to, IsRooted}
 use Rattle.vb_index.specs.Nodes.{same_name, IsTable}
 use Rattle.vb_index.proofs.Growth.{Fills}
+use Rattle.vb_index.proofs.Heights.{rooted-fill}
 use Rattle.vb_index.proofs.Kept.{kept-same, kept-fill}
 use Rattle.vb_index.proofs.table.Table.put.Goals as goal
 
@@ -23,7 +26,9 @@ invariant_of-self-2 c =
       new_name = c.requires.new_name;
       fits = c.requires.fits;
     }) in
-    kept-fill c.self.inside _ c.args.held.node.slot c.args.held c.self.invariant fills (record {
+    let D : List (Option Held) → Type 0 = λ nodes. is_deep (path_to nodes c.args.held.node.parent ++ c.args.held.node.name ∷ []) ≡ false in
+    let rooted = rooted-fill c.self.inside.nodes.items c.args.held.node.slot c.args.held c.self.invariant.table c.self.invariant.rooted fills c.requires.valid (subst D (sym c.self.view_is) c.requires.shallow) in
+    kept-fill c.self.inside _ c.args.held.node.slot c.args.held c.self.invariant fills rooted (record {
       nodes = refl;
       maps = c.add_child.ensures.len;
       found = λ folder name d l. c.in_ok-add_child.ensures.ok folder name d l

@@ -5,7 +5,9 @@ use Rattle.std.specs.Ordering.{nat_cmp}
 use Rattle.std.specs.Cmp.Lexicographic.{slice_cmp}
 use Rattle.vb_index.specs.declared.held.Held.{Held}
 use Rattle.vb_index.specs.Nodes.{held_at, same_name}
+use Rattle.vb_index.specs.Heights.{MayStand}
 use Rattle.vb_index.specs.Moves.{placed_in, MayPlace}
+use Rattle.vb_index.proofs.Heights.{rooted-place}
 use Rattle.vb_index.proofs.Kept.{kept-same}
 use Rattle.vb_index.proofs.Tables.{folder_in}
 use Rattle.vb_index.proofs.Places.{Moves, may-moves, kept-place}
@@ -17,7 +19,7 @@ invariant_of-self c =
 
 pub drop_child-requires : goal.drop_child-requires
 drop_child-requires c =
-    let there = c.self.invariant.table.in_folder c.args.slot c.in-Some.held.now (sym c.in-Some.ensures) c.requires.above_root in
+    let there = c.self.invariant.table.in_folder c.args.slot c.in-Some.held.now (sym c.in-Some.ensures) c.requires.place.above_root in
     let in_table = folder_in c.self.inside.nodes.items c.in-Some.held.now.node.parent there in
     omega (arith, in_table, c.self.invariant.maps, c.add_child.ensures.len)
 
@@ -27,8 +29,10 @@ invariant_of-self-2 c =
     let P : List (Option Held) → Type 0 = λ nodes. MayPlace nodes c.args.slot c.args.folder c.args.name in
     let holds : held_at c.self.inside.nodes.items c.args.slot ≡ Some c.in-Some.held.now = sym c.in-Some.ensures in
     let m : Moves c.self.inside.nodes.items c.args.slot c.in-Some.held.now c.args.folder c.args.name =
-    may-moves c.self.inside.nodes.items c.args.slot c.args.folder c.args.name c.in-Some.held.now c.self.invariant.table (subst P (sym c.self.view_is) c.requires) holds in
-    kept-place c.self.inside _ c.args.slot c.in-Some.held.now c.args.folder c.args.name c.self.invariant m (record {
+    may-moves c.self.inside.nodes.items c.args.slot c.args.folder c.args.name c.in-Some.held.now c.self.invariant.table (subst P (sym c.self.view_is) c.requires.place) holds in
+    let S : List (Option Held) → Type 0 = λ nodes. MayStand nodes c.args.slot c.args.folder c.args.name in
+    let rooted = rooted-place c.self.inside.nodes.items c.args.slot c.in-Some.held.now c.args.folder c.args.name c.self.invariant.table c.self.invariant.rooted m (subst S (sym c.self.view_is) c.requires.stands) in
+    kept-place c.self.inside _ c.args.slot c.in-Some.held.now c.args.folder c.args.name c.self.invariant m rooted (record {
       nodes = c.set_place.ensures ∙ ap (λ o. set c.self.inside.nodes.items c.args.slot (option_map (placed_in c.args.folder c.args.name) o)) holds;
       maps = c.drop_child.ensures.len ∙ c.add_child.ensures.len;
       found = λ t y d l.

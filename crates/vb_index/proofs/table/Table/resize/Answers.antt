@@ -3,7 +3,8 @@ use Rattle.std.specs.Option.{option_map}
 use Rattle.vb_index.specs.declared.held.Held.{Held}
 use Rattle.vb_index.specs.Nodes.{held_at, refs_at}
 use Rattle.vb_index.specs.Changes.{resized}
-use Rattle.vb_index.proofs.Resizing.{item_at, file-held, resized_changes, kept-changed, few_pages, few-pages}
+use Rattle.vb_index.proofs.Heights.{rooted-changed}
+use Rattle.vb_index.proofs.Resizing.{Changes, item_at, file-held, resized_changes, kept-changed, few_pages, few-pages}
 use Rattle.vb_index.proofs.Tables.{among_totals}
 use Rattle.vb_index.proofs.table.Table.resize.Goals as goal
 
@@ -16,8 +17,10 @@ invariant_of-self-2 c =
     let P : List (Option Held) → Type 0 = λ nodes. is_some (refs_at nodes c.args.slot) ≡ true in
     let file = file-held c.self.inside.nodes.items c.args.slot c.in-Some.held.now (subst P (sym c.self.view_is) c.requires.file) holds in
     let among = among_totals c.self.inside.nodes.items c.args.slot c.in-Some.held.now holds in
-    kept-changed c.self.inside _ c.args.slot c.in-Some.held.now (resized c.args.len c.in-Some.held.now) c.self.invariant
-    (resized_changes c.self.inside.nodes.items c.args.slot c.args.len c.in-Some.held.now c.self.invariant.table holds file c.requires.short)
+    let changes : Changes c.self.inside.nodes.items c.args.slot c.in-Some.held.now (resized c.args.len c.in-Some.held.now) =
+    resized_changes c.self.inside.nodes.items c.args.slot c.args.len c.in-Some.held.now c.self.invariant.table holds file c.requires.short in
+    kept-changed c.self.inside _ c.args.slot c.in-Some.held.now (resized c.args.len c.in-Some.held.now) c.self.invariant changes
+    (rooted-changed c.self.inside.nodes.items c.args.slot c.in-Some.held.now (resized c.args.len c.in-Some.held.now) c.self.invariant.table c.self.invariant.rooted changes)
     (ap (set c.self.inside.nodes.items c.args.slot) (c.in_ok-resize_slot.ensures.ok ∙ ap (option_map (resized c.args.len)) (item_at c.self.inside.nodes.items c.args.slot c.in-Some.held.now c.index_mut.result.now holds c.index_mut.ensures.value)))
     refl refl refl
     (omega (arith, among.1, c.self.invariant.pages, c.pages_of.ensures, c.pages_of-2.ensures))
