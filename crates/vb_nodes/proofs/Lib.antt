@@ -3,6 +3,7 @@ pub mod Climbs
 pub mod Judging
 pub mod TreeFacts
 pub mod Placing
+pub mod Rooted
 pub mod WalkLaws
 pub mod ShapeLaws
 pub mod Forged

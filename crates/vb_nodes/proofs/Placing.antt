@@ -47,7 +47,7 @@ placed-now : (depth_k depth k end : ℕ) → depth_k ≡ depth → k < end → (
 placed-now depth_k depth k end e lt =
     ap (λ (b : Bool). nat_lt depth_k depth || b) (both_true (depth_k == depth) (nat_lt k end) ((Decides-eqb depth_k depth).1 e) ((Decides-ltb k end).1 lt)) ∙ or_true (nat_lt depth_k depth)
 
-placed-above : (depth_k depth k end : ℕ) → depth_k < depth → (nat_lt depth_k depth || (depth_k == depth && nat_lt k end)) ≡ true
+pub placed-above : (depth_k depth k end : ℕ) → depth_k < depth → (nat_lt depth_k depth || (depth_k == depth && nat_lt k end)) ≡ true
 placed-above depth_k depth k end lt = ap (λ (b : Bool). b || (depth_k == depth && nat_lt k end)) ((Decides-ltb depth_k depth).1 lt)
 
 placed-not : (depth_k depth k end : ℕ) → depth ≤ depth_k → (depth_k ≡ depth → end ≤ k) → (nat_lt depth_k depth || (depth_k == depth && nat_lt k end)) ≡ false

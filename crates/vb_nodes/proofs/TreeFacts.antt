@@ -26,12 +26,20 @@ true_from_not false e = absurd (false≢true (sym e))
 eqb_false : (a b : ℕ) → (a ≡ b → ⊥) → (a == b) ≡ false
 eqb_false a b ne = elim (cases_Bool (a == b)) [ inl e ↦ absurd (ne (eqb-true a b e)) | inr e ↦ e ]
 
+-- a path that isn't too deep has at most 32 parts
+pub few-parts : (path : List (List ℕ)) → is_deep path ≡ false → length path ≤ 32
+few-parts path h = ltb-false 32 (length path) (second (nat_lt 1024 (length (text_of_path path))) (nat_lt 32 (length path)) h) where
+  second : (a b : Bool) → (a || b) ≡ false → b ≡ false
+  second true b h = absurd (false≢true (sym h))
+  second false b h = h
+
 -- the entry in a slot keeps every rule
 pub record IsEntryOf (nodes : List Node) (slot : ℕ) : Type 0 where
   pub in_folder : is_folder_node (node_at nodes (parent_in nodes slot)).kind ≡ true
   pub rooted : ancestor nodes enough_steps slot ≡ 0
   pub alone : has_lower_twin nodes slot ≡ false
   pub shallow : depth_of nodes slot ≤ 32
+  pub fits : is_deep (path_in nodes slot) ≡ false
 
 entry_from_none : (nodes : List Node) (slot : ℕ) → fault_of_entry nodes slot ≡ None → IsEntryOf nodes slot
 entry_from_none nodes slot e =
@@ -43,14 +51,9 @@ entry_from_none nodes slot e =
       in_folder = true_from_not _ one.0;
       rooted = eqb-true (ancestor nodes enough_steps slot) 0 (true_from_not _ two.0);
       alone = three.0;
-      shallow = few (path_in nodes slot) four.0;
-    } where
-      second : (a b : Bool) → (a || b) ≡ false → b ≡ false
-      second true b h = absurd (false≢true (sym h))
-      second false b h = h
-
-      few : (path : List (List ℕ)) → is_deep path ≡ false → length path ≤ 32
-      few path h = ltb-false 32 (length path) (second (nat_lt 1024 (length (text_of_path path))) (nat_lt 32 (length path)) h)
+      shallow = few-parts (path_in nodes slot) four.0;
+      fits = four.0;
+    }
 
 -- the entry in a slot that isn't free, of a tree
 pub entry-of-tree : (nodes : List Node) (slot : ℕ) → IsNodeTree nodes → 0 < slot → slot < length nodes → is_free (node_at nodes slot).kind ≡ false → IsEntryOf nodes slot
@@ -93,7 +96,7 @@ below_folder nodes m slot root up =
     let same : path_up nodes (suc m) parent ≡ path_up nodes m parent = ap (λ (n : ℕ). path_up nodes n parent) e ∙ path_up-add nodes m 1 parent ∙ ap (λ (p : List (List ℕ)). p ++ path_up nodes m parent) last in
     ap (λ (p : List (List ℕ)). p ++ own_part nodes slot) (sym same)
 
-enough-suc : (m : ℕ) × (enough_steps ≡ suc m)
+pub enough-suc : (m : ℕ) × (enough_steps ≡ suc m)
 unfolding enough_steps
 enough-suc = (131071, refl)
 

@@ -1,5 +1,5 @@
 -- The index that the nodes of a tree make.
-use Rattle.std.specs.Prelude.{◌≡◌, ℕ, nat_lt, if◌then◌else◌, List, map, replicate, Option, Some, None, Result, Ok, Err}
+use Rattle.std.specs.Prelude.{◌≡◌, ℕ, nat_lt, true, if◌then◌else◌, List, length, map, replicate, Option, Some, None, Result, Ok, Err}
 use Rattle.std.specs.List.{sum_by}
 use Rattle.vb_block.specs.declared.digest.Ref.{Ref}
 use Rattle.vb_tree.specs.declared.tree.Limits.{Limits}
@@ -9,9 +9,11 @@ use Rattle.vb_inode.specs.Nodes.{is_free}
 use Rattle.vb_index.specs.declared.held.Held.{Held}
 use Rattle.vb_index.specs.Changes.{blank_ref}
 use Rattle.vb_index.specs.Indexes.{IndexState}
+use Rattle.vb_index.specs.Nodes.{held_at}
 use Rattle.vb_nodes.specs.declared.errors.TableError.{TableError}
 use Rattle.vb_nodes.specs.declared.errors.TableError.TheVariants.{Wrong, TooManyPages, Memory}
 use Rattle.vb_nodes.specs.Faults.{Fault, table_fault}
+use Rattle.vb_nodes.specs.Paths.{node_at}
 
 -- what an index holds of a node: nothing of a free one, and of any other one blank reference for each of its pages
 abbrev pub held_from : Node → Option Held
@@ -20,6 +22,16 @@ held_from node = if is_free node.kind then None else Some (record { node = node;
 -- what an index holds of the nodes
 abbrev pub held_of : List Node → List (Option Held)
 held_of nodes = map held_from nodes
+
+-- a node stands for what a slot holds: a free one for nothing, and else that of what is held, wherever its map pages lie
+abbrev pub StandsFor : Option Held → Node → Type 0
+StandsFor None node = is_free node.kind ≡ true
+StandsFor (Some held) node = node ≡ record held.node { maps = node.maps }
+
+-- there is a node for each slot, which stands for what the slot holds
+pub record StandForAll (nodes : List Node) (held : List (Option Held)) : Type 0 where
+  pub as_many : length nodes ≡ length held
+  pub each : (slot : ℕ) → StandsFor (held_at held slot) (node_at nodes slot)
 
 -- how many pages all files take, their map pages among them
 abbrev pub pages_of_nodes : List Node → ℕ

@@ -1,12 +1,14 @@
 // Laws of nodes by slot, each the contract of a function that does nothing.
-ghost use Rattle.std.specs.Prelude.{◌≡◌, ◌↔◌, ℕ, List, Some};
+ghost use Rattle.std.specs.Prelude.{◌≡◌, ◌↔◌, ℕ, List, Option, Some, None};
 ghost use Rattle.vb_inode.specs.declared.node.Node.{Node};
-ghost use Rattle.vb_index.specs.Nodes.{pages_in, slot_at};
+ghost use Rattle.vb_index.specs.declared.held.Held.{Held};
+ghost use Rattle.vb_index.specs.Heights.{IsRooted};
+ghost use Rattle.vb_index.specs.Nodes.{pages_in, slot_at, IsTable};
 ghost use Rattle.vb_index.specs.Indexes.{HasShapeOf};
 ghost use Rattle.vb_tree.specs.declared.tree.TreeEntry.{TreeEntry};
 ghost use Rattle.vb_nodes.specs.Paths.{AreBySlot};
-ghost use Rattle.vb_nodes.specs.Faults.{IsNodeTree};
-ghost use Rattle.vb_nodes.specs.Holdings.{held_of, pages_of_nodes};
+ghost use Rattle.vb_nodes.specs.Faults.{table_fault, IsNodeTree};
+ghost use Rattle.vb_nodes.specs.Holdings.{held_of, pages_of_nodes, StandForAll};
 ghost use Rattle.vb_nodes.specs.Walking.{HasEntriesOf, HasPath};
 
 /// In the index that the nodes of a tree make, a path leads to the slot whose path it is, and to no other;
@@ -18,4 +20,10 @@ pub fn nodes_are_found_by_path()
         → pages_in (held_of nodes) ≡ pages_of_nodes nodes }
     ensures shape { (nodes : List Node) (tree : List TreeEntry) → IsNodeTree nodes
         → HasEntriesOf nodes tree → HasShapeOf (held_of nodes) tree }
+{}
+
+/// Nodes that stand for what an index holds are a tree, at every moment of it. It does nothing.
+pub fn indexes_have_no_fault()
+    ensures { (nodes : List Node) (held : List (Option Held)) → IsTable held → IsRooted held
+        → StandForAll nodes held → table_fault nodes ≡ None }
 {}

@@ -1,16 +1,20 @@
-use Rattle.std.proofs.Common.{◌≡◌, ℕ, length, replicate, set, Some, refl, sym, ap, subst, ◌∙◌, arith}
+use Rattle.std.proofs.Common.{◌≡◌, ℕ, ◌∷◌, ◌++◌, [], length, replicate, set, Some, refl, sym, ap, subst, ◌∙◌, arith}
 use Rattle.std.proofs.lemmas.List.{get_or_default}
 use Rattle.std.proofs.lemmas.Result.{on_ok_weaker}
 use Rattle.vb_inode.specs.declared.node.Node.{Node}
 use Rattle.vb_inode.specs.Nodes.{is_free}
 use Rattle.vb_inode.specs.Reading.{IsNodeOf}
 use Rattle.vb_tree.specs.Trees.{data_pages_of}
+use Rattle.vb_path.specs.Parts.{IsPart}
+use Rattle.vb_tree.specs.Renames.{is_deep}
+use Rattle.vb_index.specs.Heights.{path_to}
 use Rattle.vb_index.specs.Indexes.{IndexState}
 use Rattle.vb_index.specs.Changes.{blank_ref}
 use Rattle.vb_index.specs.Nodes.{child_of, held_at, holds_folder}
 use Rattle.vb_nodes.specs.Paths.{free_node, node_at}
 use Rattle.vb_nodes.specs.Building.{depth_of}
 use Rattle.vb_nodes.proofs.NodeLaws.{node-of}
+use Rattle.vb_nodes.proofs.Rooted.{named-part, put-shallow}
 use Rattle.vb_nodes.proofs.Placing.{placed-put, folder-placed, held_is, name-new, slot-free, node-fits}
 use Rattle.vb_nodes.proofs.build.put_node.Goals as goal
 
@@ -48,6 +52,18 @@ put-requires-clause-fits c =
     (subst (IsNodeOf (length nodes)) (sym (copied_is c)) (node-of nodes c.args.slot c.requires.tree.by_slot c.requires.there))
     (ap (λ (n : Node). is_free n.kind) (copied_is c) ∙ c.requires.used)
     (c.in_ok-refs.ensures ∙ ap (λ (n : Node). replicate (data_pages_of n.length) blank_ref) (sym c.in_ok-copied.ensures))
+
+pub put-requires-clause-valid : goal.put-requires-clause-valid
+put-requires-clause-valid c =
+    let nodes = c.args.nodes.now in
+    let of = node-of nodes c.args.slot c.requires.tree.by_slot c.requires.there in
+    let own = c.requires.tree.by_slot.own_slots c.args.slot c.requires.there in
+    subst IsPart (sym (ap (λ (n : Node). n.name) (copied_is c))) (named-part (node_at nodes c.args.slot).slot (node_at nodes c.args.slot).kind (node_at nodes c.args.slot).name (omega (arith, own, c.requires.below_root)) c.requires.used of.in_range.named)
+
+pub put-requires-clause-shallow : goal.put-requires-clause-shallow
+put-requires-clause-shallow c =
+    ap (λ (n : Node). is_deep (path_to c.args.index.now.nodes n.parent ++ n.name ∷ [])) (copied_is c)
+    ∙ put-shallow c.args.nodes.now c.args.slot c.args.index.now.nodes c.requires.tree c.requires.held c.requires.below_root c.requires.there c.requires.used
 
 pub returns-clause-held : goal.returns-clause-held
 returns-clause-held c =
