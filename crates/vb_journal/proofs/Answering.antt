@@ -1,64 +1,114 @@
 -- What a step of a recovery answers.
-use Rattle.std.proofs.Common.{◌≡◌, ℕ, ◌-◌, false, cond, List, [], ◌∷◌, ◌++◌, length, Option, Some, None, Result, Ok, Err, refl, sym, ap, subst, ◌∙◌, arith}
-use Rattle.std.specs.Prelude.{OnOk, IsSome, slice_get}
+use Rattle.std.proofs.Common.{◌≡◌, ◌≢◌, ℕ, ◌-◌, false, cond, List, [], ◌∷◌, ◌++◌, length, Option, Some, None, Result, Ok, Err, refl, sym, ap, subst, ◌∙◌, arith}
+use Rattle.std.specs.Prelude.{IfErr, IfOk, IsSome, slice_get}
 use Rattle.std.proofs.lemmas.List.{length-append}
 use Rattle.vb_disk.specs.States.{DiskCall, DiskState}
 use Rattle.vb_head.specs.declared.head.Head.{Head}
 use Rattle.vb_journal.specs.declared.recover.Ahead.{Ahead}
 use Rattle.vb_journal.specs.declared.recover_error.RecoverError.{RecoverError}
+use Rattle.vb_journal.specs.declared.recover_error.RecoverError.TheVariants.{NotAStore, Damaged, Unfit, Rebuilding, DiskFault, Memory}
 use Rattle.vb_journal.specs.declared.recover_stage.RecoverStage.{RecoverStage}
 use Rattle.vb_journal.specs.declared.recover_stage.RecoverStage.TheVariants.{Ask, Settle, ReadFirst, ReadSecond, Mend, SettleMend, ReadImage, Replay, Ready, Refused}
 use Rattle.vb_journal.specs.Commits.{calls_left}
-use Rattle.vb_journal.specs.Recoveries.{Recovered, node_images, recovered_from, settled_head}
+use Rattle.vb_journal.specs.Recoveries.{Recovered, is_retried, node_images, recovered_from, settled_head}
 use Rattle.vb_journal.specs.Outcomes.{reads_of}
-use Rattle.vb_journal.specs.Recovering.{AskSize, Change, IsRecovered, IsRecovering, MakesCall, ReadPlace, RecoverCall, TakesImage, first_change, images_by, is_refused}
-use Rattle.vb_journal.specs.Recovers.{AnswersRecovery, HasHead, IsAheadOf, Lends, ahead_at, is_reading, last_of}
+use Rattle.vb_journal.specs.Recovering.{HasEnded, IsHopeless, IsRecovered, IsRecovering, StandsAfter, TakesImage, first_change, images_by}
+use Rattle.vb_journal.specs.Recovers.{AnswersRecovery, HasHead, IsAheadOf, Lends, is_reading, last_of}
+use Rattle.vb_journal.specs.RecoverViews.{RecoverView, answer_in, next, recover_call, view_of}
 use Rattle.vb_journal.proofs.PlanSteps.{calls_from-next}
 use Rattle.vb_journal.proofs.Replays.{late-going}
 use Rattle.vb_journal.proofs.SameRecoveries.{recovery_of-chosen}
-
-abbrev pub ahead_ok : Ahead → Result Ahead RecoverError
-ahead_ok x = Ok x
-
--- the same call with another answer
-changes_ok : (call : Option RecoverCall) (old new : Option DiskState) (x : Ahead) → MakesCall {T = Unit {0}} call old new (Ok tt) → MakesCall call old new (ahead_ok x)
-changes_ok None old new x makes = makes
-changes_ok (Some AskSize) old new x makes = makes
-changes_ok (Some (ReadPlace place)) old new x makes = makes
-changes_ok (Some (Change call)) old new x makes = record {
-  made = makes.made;
-  failed = λ d told is. absurd (cc is);
-  memory = λ is. absurd (cc is);
-  untold = makes.untold;
-}
-
-pub makes-ok : (call : Option RecoverCall) (old new : Option DiskState) (result : Result (Unit {0}) RecoverError) (done : Unit {0}) (x : Ahead) → result ≡ Ok done → MakesCall call old new result → MakesCall call old new (ahead_ok x)
-makes-ok call old new result done x is makes =
-    let Q : Result (Unit {0}) RecoverError → Type 0 = λ r. MakesCall call old new r in
-    changes_ok call old new x (subst Q is makes)
-
--- a fact for Ok
-pub on-ok : {E : Type 0} (P : Type 0) (result : Result (Unit {0}) E) (done : Unit {0}) → result ≡ Ok done → OnOk result P → P
-on-ok P (Ok x) done is on = on
-on-ok P (Err e) done is on = absurd (cc is)
+use Rattle.vb_steps.specs.declared.due.Got.{Got}
+use Rattle.vb_steps.specs.Calls.{Rest}
 
 -- More where a call is due, and Ready where there is a head
 some_first : (calls : List DiskCall) (call : DiskCall) (rest : List DiskCall) → calls ≡ call ∷ rest → IsSome (first_change calls)
 some_first calls call rest is = let Q : List DiskCall → Type 0 = λ l. IsSome (first_change l) in subst Q (sym is) refl
 
-pub ahead-of : (stage : RecoverStage) → is_refused stage ≡ false → IsAheadOf (ahead_at stage) stage
-ahead-of Ask going = refl
-ahead-of (Settle size) going = refl
-ahead-of (ReadFirst size) going = refl
-ahead-of (ReadSecond first) going = refl
-ahead-of (Mend mending) going = refl
-ahead-of (SettleMend mending) going = refl
-ahead-of (ReadImage journal) going = refl
-ahead-of (Replay replay) going =
+ahead_of : (stage : RecoverStage) → IfOk (answer_in (view_of stage)) (λ ahead. IsAheadOf ahead stage)
+ahead_of Ask = refl
+ahead_of (Settle size) = refl
+ahead_of (ReadFirst size) = refl
+ahead_of (ReadSecond first) = refl
+ahead_of (Mend mending) = refl
+ahead_of (SettleMend mending) = refl
+ahead_of (ReadImage journal) = refl
+ahead_of (Replay replay) =
     let c = replay.commit in
     some_first (calls_left replay.commit) _ _ (calls_from-next c.head c.epoch c.images c.stage (late-going c.stage replay.late))
-ahead-of (Ready ready) going = refl
-ahead-of (Refused refusal) going = absurd (cc going)
+ahead_of (Ready ready) = refl
+ahead_of (Refused refusal) = tt
+
+pub ahead-of : (stage : RecoverStage) (result : Result Ahead RecoverError) → result ≡ answer_in (view_of stage) → IfOk result (λ ahead. IsAheadOf ahead stage)
+ahead-of stage result answers = subst (λ (r : Result Ahead RecoverError). IfOk r (λ ahead. IsAheadOf ahead stage)) (sym answers) (ahead_of stage)
+
+-- a refusal is the end
+ended_stands : (old new : RecoverStage) (error : RecoverError) → is_retried error ≡ false → HasEnded new error → StandsAfter old new error
+ended_stands old new (NotAStore place) ends is = is
+ended_stands old new (Damaged place kept found) ends is = is
+ended_stands old new (Unfit place why) ends is = is
+ended_stands old new Rebuilding ends is = is
+ended_stands old new DiskFault ends is = absurd (cc ends)
+ended_stands old new Memory ends is = absurd (cc ends)
+
+stands_of : (old new : RecoverStage) → IfErr (answer_in (view_of new)) (StandsAfter old new)
+stands_of old Ask = tt
+stands_of old (Settle size) = tt
+stands_of old (ReadFirst size) = tt
+stands_of old (ReadSecond first) = tt
+stands_of old (Mend mending) = tt
+stands_of old (SettleMend mending) = tt
+stands_of old (ReadImage journal) = tt
+stands_of old (Replay replay) = tt
+stands_of old (Ready ready) = tt
+stands_of old (Refused refusal) = ended_stands old (Refused refusal) refusal.error refusal.ends refl
+
+pub stands-of : (old new : RecoverStage) (result : Result Ahead RecoverError) → result ≡ answer_in (view_of new) → IfErr result (StandsAfter old new)
+stands-of old new result answers = subst (λ (r : Result Ahead RecoverError). IfErr r (StandsAfter old new)) (sym answers) (stands_of old new)
+
+abbrev refused_with : RecoverError → Result Ahead RecoverError
+refused_with e = Err e
+
+-- one that has ended gives the same answer
+pub ends-again : (stage : RecoverStage) (view : RecoverView) (got : Got) (result : Result Ahead RecoverError) → view ≡ next (view_of stage) got → result ≡ answer_in view → (error : RecoverError) → HasEnded stage error → result ≡ Err error
+ends-again (Refused refusal) view got result is answers error ended = answers ∙ ap answer_in is ∙ ap refused_with ended
+ends-again Ask view got result is answers error ended = absurd ended
+ends-again (Settle size) view got result is answers error ended = absurd ended
+ends-again (ReadFirst size) view got result is answers error ended = absurd ended
+ends-again (ReadSecond first) view got result is answers error ended = absurd ended
+ends-again (Mend mending) view got result is answers error ended = absurd ended
+ends-again (SettleMend mending) view got result is answers error ended = absurd ended
+ends-again (ReadImage journal) view got result is answers error ended = absurd ended
+ends-again (Replay replay) view got result is answers error ended = absurd ended
+ends-again (Ready ready) view got result is answers error ended = absurd ended
+
+-- and has no call due
+pub ended-rests : (stage : RecoverStage) (error : RecoverError) → HasEnded stage error → recover_call stage ≡ Rest
+ended-rests (Refused refusal) error ended = refl
+ended-rests Ask error ended = absurd ended
+ended-rests (Settle size) error ended = absurd ended
+ended-rests (ReadFirst size) error ended = absurd ended
+ended-rests (ReadSecond first) error ended = absurd ended
+ended-rests (Mend mending) error ended = absurd ended
+ended-rests (SettleMend mending) error ended = absurd ended
+ended-rests (ReadImage journal) error ended = absurd ended
+ended-rests (Replay replay) error ended = absurd ended
+ended-rests (Ready ready) error ended = absurd ended
+
+-- damage has two digests
+pub differs-of : (stage : RecoverStage) (result : Result Ahead RecoverError) → result ≡ answer_in (view_of stage) → (place : ℕ) (kept found : List ℕ) → result ≡ Err (Damaged place kept found) → kept ≢ found
+differs-of (Refused refusal) result answers place kept found is =
+    let both : refused_with refusal.error ≡ refused_with (Damaged place kept found) = sym answers ∙ is in
+    refusal.differ place kept found (cc both)
+differs-of Ask result answers place kept found is = absurd (cc (answers, is))
+differs-of (Settle size) result answers place kept found is = absurd (cc (answers, is))
+differs-of (ReadFirst size) result answers place kept found is = absurd (cc (answers, is))
+differs-of (ReadSecond first) result answers place kept found is = absurd (cc (answers, is))
+differs-of (Mend mending) result answers place kept found is = absurd (cc (answers, is))
+differs-of (SettleMend mending) result answers place kept found is = absurd (cc (answers, is))
+differs-of (ReadImage journal) result answers place kept found is = absurd (cc (answers, is))
+differs-of (Replay replay) result answers place kept found is = absurd (cc (answers, is))
+differs-of (Ready ready) result answers place kept found is = absurd (cc (answers, is))
 
 -- ---- the image that is lent
 
@@ -94,14 +144,25 @@ has_head begun d head is =
       head_is = ap (λ (h : Head). let o : Option Head = Some h in o) (sym is.settles);
     }
 
-pub answers-ok : (begun d : DiskState) (stage : RecoverStage) → is_refused stage ≡ false → IsRecovering stage begun d → AnswersRecovery begun stage (ahead_ok (ahead_at stage))
-answers-ok begun d Ask going known = tt
-answers-ok begun d (Settle size) going known = tt
-answers-ok begun d (ReadFirst size) going known = tt
-answers-ok begun d (ReadSecond first) going known = tt
-answers-ok begun d (Mend mending) going known = tt
-answers-ok begun d (SettleMend mending) going known = tt
-answers-ok begun d (ReadImage journal) going known = tt
-answers-ok begun d (Replay replay) going known = tt
-answers-ok begun d (Ready ready) going known = has_head begun d ready.head known
-answers-ok begun d (Refused refusal) going known = absurd (cc going)
+hopeless_answers : (begun d : DiskState) (stage : RecoverStage) (error : RecoverError) → IsHopeless begun error d → AnswersRecovery begun stage (refused_with error)
+hopeless_answers begun d stage (NotAStore place) is = is.recovery
+hopeless_answers begun d stage (Damaged place kept found) is = is.recovery
+hopeless_answers begun d stage (Unfit place why) is = is.recovery
+hopeless_answers begun d stage Rebuilding is = is.recovery
+hopeless_answers begun d stage DiskFault is = tt
+hopeless_answers begun d stage Memory is = tt
+
+answers_of : (begun d : DiskState) (stage : RecoverStage) → IsRecovering stage begun d → AnswersRecovery begun stage (answer_in (view_of stage))
+answers_of begun d Ask known = tt
+answers_of begun d (Settle size) known = tt
+answers_of begun d (ReadFirst size) known = tt
+answers_of begun d (ReadSecond first) known = tt
+answers_of begun d (Mend mending) known = tt
+answers_of begun d (SettleMend mending) known = tt
+answers_of begun d (ReadImage journal) known = tt
+answers_of begun d (Replay replay) known = tt
+answers_of begun d (Ready ready) known = has_head begun d ready.head known
+answers_of begun d (Refused refusal) known = hopeless_answers begun d (Refused refusal) refusal.error known
+
+pub answers-of : (begun d : DiskState) (stage : RecoverStage) (result : Result Ahead RecoverError) → result ≡ answer_in (view_of stage) → IsRecovering stage begun d → AnswersRecovery begun stage result
+answers-of begun d stage result answers known = subst (AnswersRecovery begun stage) (sym answers) (answers_of begun d stage known)

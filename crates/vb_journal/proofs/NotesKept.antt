@@ -11,7 +11,7 @@ use Rattle.vb_journal.specs.declared.mending.FirstRead.{FirstRead}
 use Rattle.vb_journal.specs.declared.recover_error.RecoverError.{RecoverError}
 use Rattle.vb_journal.specs.declared.recover_stage.RecoverStage.{RecoverStage}
 use Rattle.vb_journal.specs.Images.{slot_of}
-use Rattle.vb_journal.specs.Notes.{HasNotedAt, KeepsNotes, head_place, image_read, place_after, slots_with}
+use Rattle.vb_journal.specs.Notes.{head_place, slots_with}
 use Rattle.vb_journal.specs.Outcomes.{reads_of}
 use Rattle.vb_journal.specs.Recoveries.{greater_place, head_choice}
 use Rattle.vb_journal.specs.Recovering.{HasReadFirst, images_by}
@@ -60,28 +60,3 @@ slots-more slots before after image after_is slots_are =
     ∙ ap (λ (s : List ℕ). s ++ slot_of image ∷ []) slots_are
     ∙ sym (map-append slot_of before (image ∷ []))
     ∙ ap (map slot_of) (sym after_is)
-
--- ---- a step
-
--- what is noted at a stage where its step was made
-pub noted-ok : (begun : DiskState) (before after : RecoverStage) (result : Result (Unit {0}) RecoverError) (done : Unit {0}) (reads : Bool) (place here : ℕ) (slots noted : List ℕ) → result ≡ Ok done → reads ≡ is_reading before → KeepsNotes before after result begun → HasNotedAt before place slots begun → here ≡ place_after before place → noted ≡ slots_with slots (cond reads (last_of (images_by after)) None) → HasNotedAt after here noted begun
-noted-ok begun before after result done reads place here slots noted is reads_is keeps has here_is noted_is =
-    let R : Result (Unit {0}) RecoverError → Type 0 = λ r. HasNotedAt after (place_after before place) (slots_with slots (image_read before after r)) begun in
-    let there : HasNotedAt after (place_after before place) (slots_with slots (cond (is_reading before) (last_of (images_by after)) None)) begun = subst R is (keeps place slots has) in
-    let B : Bool → Type 0 = λ b. HasNotedAt after (place_after before place) (slots_with slots (cond b (last_of (images_by after)) None)) begun in
-    let P : ℕ → Type 0 = λ p. HasNotedAt after p (slots_with slots (cond reads (last_of (images_by after)) None)) begun in
-    let S : List ℕ → Type 0 = λ s. HasNotedAt after here s begun in
-    subst S (sym noted_is) (subst P (sym here_is) (subst B (sym reads_is) there))
-
--- and where it failed
-none_read : (slots : List ℕ) (reads : Bool) → slots_with slots (cond reads None None) ≡ slots
-none_read slots true = refl
-none_read slots false = refl
-
-pub noted-err : (begun : DiskState) (before after : RecoverStage) (result : Result (Unit {0}) RecoverError) (e : RecoverError) (place here : ℕ) (slots noted : List ℕ) → result ≡ Err e → KeepsNotes before after result begun → HasNotedAt before place slots begun → here ≡ place_after before place → noted ≡ slots → HasNotedAt after here noted begun
-noted-err begun before after result e place here slots noted is keeps has here_is noted_is =
-    let R : Result (Unit {0}) RecoverError → Type 0 = λ r. HasNotedAt after (place_after before place) (slots_with slots (image_read before after r)) begun in
-    let there : HasNotedAt after (place_after before place) (slots_with slots (cond (is_reading before) None None)) begun = subst R is (keeps place slots has) in
-    let P : ℕ → Type 0 = λ p. HasNotedAt after p (slots_with slots (cond (is_reading before) None None)) begun in
-    let S : List ℕ → Type 0 = λ s. HasNotedAt after here s begun in
-    subst S (none_read slots (is_reading before) ∙ sym noted_is) (subst P (sym here_is) there)

@@ -13,6 +13,7 @@ use Rattle.vb_head.specs.Heads.{IsHead, count_of, head_read}
 use Rattle.vb_journal.specs.declared.commit_stage.Stage.{Stage}
 use Rattle.vb_journal.specs.declared.commit_stage.Stage.TheVariants.{Journal, Opening, Homes, Closing, Rested}
 use Rattle.vb_journal.specs.declared.journal.Journal.{Journal as JournalRead}
+use Rattle.vb_journal.specs.declared.recover.Ahead.{Ahead}
 use Rattle.vb_journal.specs.declared.recover_error.RecoverError.{RecoverError}
 use Rattle.vb_journal.specs.declared.recover_error.RecoverError.TheVariants.{DiskFault, Memory, NotAStore}
 use Rattle.vb_journal.specs.declared.recover_stage.RecoverStage.{RecoverStage}
@@ -21,6 +22,7 @@ use Rattle.vb_journal.specs.Interruptions.{is_synced_in}
 use Rattle.vb_journal.specs.Plans.{calls_from, next_stage}
 use Rattle.vb_journal.specs.Recoveries.{are_one_head, error_from, head_choice, image_refusal, is_retried, journal_place, greater_place}
 use Rattle.vb_journal.specs.Recovering.{AskSize, Change, Changes, MakesCall, ReadPlace, RecoverCall, TakesImage, due_of, first_change, images_in_view, most_slots, most_slots_in}
+use Rattle.vb_journal.specs.Recovers.{is_reading}
 use Rattle.vb_journal.specs.RecoveryCalls.{Falls, most_for, most_left_in}
 use Rattle.vb_journal.specs.Shown.{good_of}
 use Rattle.vb_journal.specs.RecoverViews.{AtAsk, AtFirst, AtImage, AtMend, AtReady, AtRefused, AtReplay, AtSecond, AtSettle, AtSettleMend, Reads, RecoverView, after_both, after_heads, after_image, after_replay, answer_in, head_before, next, page_in, recover_call, replay_from, view_of}
@@ -80,6 +82,13 @@ few_images journal =
     let count = journal.is.range.count in
     omega (arith, left, range, count, ap count_of journal.opened)
 
+one_more : (journal : JournalRead) → length journal.images + 1 ≤ 65536
+one_more journal =
+    let left = journal.left in
+    let range = journal.is.range.nodes_high in
+    let count = journal.is.range.count in
+    omega (arith, left, range, count, ap count_of journal.opened)
+
 image_slots : (journal : JournalRead) (image : List ℕ) (refusal : Option RecoverError) → length journal.images ≤ most_slots_in (after_image journal.head journal.count (journal.images ++ image ∷ []) refusal)
 image_slots journal image None =
     let more : length (journal.images ++ image ∷ []) ≡ length journal.images + 1 = length-append journal.images (image ∷ []) in
@@ -106,17 +115,51 @@ slots-next (Replay replay) got = let c = replay.commit in replay_slots c.head c.
 slots-next (Ready ready) got = omega arith
 slots-next (Refused refusal) got = omega arith
 
+-- one more where an image was read
+read_slots : (journal : JournalRead) (image : List ℕ) (refusal : Option RecoverError) → length journal.images + 1 ≤ most_slots_in (after_image journal.head journal.count (journal.images ++ image ∷ []) refusal)
+read_slots journal image None =
+    let more : length (journal.images ++ image ∷ []) ≡ length journal.images + 1 = length-append journal.images (image ∷ []) in
+    let few : length journal.images + 1 ≤ 65536 = one_more journal in
+    either (λ v. length journal.images + 1 ≤ most_slots_in v) (ltb (length (journal.images ++ image ∷ [])) journal.count) (AtImage journal.head journal.count (journal.images ++ image ∷ [])) (replay_from journal.head (journal.images ++ image ∷ [])) (omega (arith, more)) few
+read_slots journal image (Some why) = one_more journal
+
+noted_slots : (stage : RecoverStage) (got : Got) → cond (is_reading stage) 1 0 + most_slots stage ≤ most_slots_in (next (view_of stage) got)
+noted_slots (ReadImage journal) got =
+    let read = read_slots journal (page_in got) (image_refusal journal.head.nodes (journal_place journal.head + length journal.images) journal.images (page_in got)) in
+    omega (arith, read)
+noted_slots Ask got = omega arith
+noted_slots (Settle size) got = omega arith
+noted_slots (ReadFirst size) got = omega arith
+noted_slots (ReadSecond first) got = omega arith
+noted_slots (Mend mending) got = omega arith
+noted_slots (SettleMend mending) got = omega arith
+noted_slots (Replay replay) got = let slots = slots-next (Replay replay) got in omega (arith, slots)
+noted_slots (Ready ready) got = omega arith
+noted_slots (Refused refusal) got = omega arith
+
+counted_by : (reads : Bool) (before after : ℕ) → after ≤ cond reads (before + 1) before → after ≤ cond reads 1 0 + before
+counted_by true before after counted = omega (arith, counted)
+counted_by false before after counted = omega (arith, counted)
+
+-- so there are no more than may be, once the slot of an image is noted
+pub slots-noted : (stage then : RecoverStage) (got : Got) (reads : Bool) (before after : ℕ) → before ≤ most_slots stage → reads ≡ is_reading stage → view_of then ≡ next (view_of stage) got → after ≤ cond reads (before + 1) before → after ≤ most_slots then
+slots-noted stage then got reads before after few reads_is is counted =
+    let noted = noted_slots stage got in
+    let most : most_slots_in (view_of then) ≡ most_slots_in (next (view_of stage) got) = ap most_slots_in is in
+    let more : after ≤ cond (is_reading stage) 1 0 + before = subst (λ (b : Bool). after ≤ cond b 1 0 + before) reads_is (counted_by reads before after counted) in
+    omega (arith, noted, most, more, few)
+
 -- ---- the image that was taken
 
 more_taken : (head : Head) (count : ℕ) (images : List (List ℕ)) (b : Bool) → images_in_view (cond b (AtImage head count images) (replay_from head images)) ≡ images
 more_taken head count images true = refl
 more_taken head count images false = refl
 
-image_taken : (head : Head) (count : ℕ) (images : List (List ℕ)) (refusal : Option RecoverError) (x : Unit {0}) → answer_in (after_image head count images refusal) ≡ Ok x → images_in_view (after_image head count images refusal) ≡ images
+image_taken : (head : Head) (count : ℕ) (images : List (List ℕ)) (refusal : Option RecoverError) (x : Ahead) → answer_in (after_image head count images refusal) ≡ Ok x → images_in_view (after_image head count images refusal) ≡ images
 image_taken head count images None x is = more_taken head count images (ltb (length images) count)
 image_taken head count images (Some why) x is = absurd (cc is)
 
-pub takes-next : (before after : RecoverStage) (got : Got) (told : Option DiskState) (x : Unit {0}) → view_of after ≡ next (view_of before) got → ((d : DiskState) → told ≡ Some d → got ≡ answer_of d (recover_call before)) → answer_in (view_of after) ≡ Ok x → TakesImage before after told
+pub takes-next : (before after : RecoverStage) (got : Got) (told : Option DiskState) (x : Ahead) → view_of after ≡ next (view_of before) got → ((d : DiskState) → told ≡ Some d → got ≡ answer_of d (recover_call before)) → answer_in (view_of after) ≡ Ok x → TakesImage before after told
 takes-next Ask after got told x is gives answers = tt
 takes-next (Settle size) after got told x is gives answers = tt
 takes-next (ReadFirst size) after got told x is gives answers = tt
@@ -157,7 +200,7 @@ due-is (Replay replay) =
 due-is (Ready ready) = refl
 due-is (Refused refusal) = refl
 
-changes_made : {Goes : Got → Type 0} {Stays : Type 0} (call : DiskCall) (old new : Option DiskState) (x : Unit {0}) (result : Result (Unit {0}) RecoverError) → IfErr result (λ e. is_retried e ≡ false) → Steps (ChangeCall call) Goes Stays old new (made x) → Changes call old new result
+changes_made : {Goes : Got → Type 0} {Stays : Type 0} (call : DiskCall) (old new : Option DiskState) (x : Unit {0}) (result : Result Ahead RecoverError) → IfErr result (λ e. is_retried e ≡ false) → Steps (ChangeCall call) Goes Stays old new (made x) → Changes call old new result
 changes_made call old new x (Ok y) ends steps = record {
   made = steps.went.made;
   failed = λ d told is. absurd (cc is);
@@ -171,13 +214,13 @@ changes_made call old new x (Err e) ends steps = record {
   untold = steps.untold;
 }
 
-pub makes-made : {Goes : Got → Type 0} {Stays : Type 0} (due : Option RecoverCall) (old new : Option DiskState) (x : Unit {0}) (result : Result (Unit {0}) RecoverError) → IfErr result (λ e. is_retried e ≡ false) → Steps (call_due due) Goes Stays old new (made x) → MakesCall due old new result
+pub makes-made : {Goes : Got → Type 0} {Stays : Type 0} (due : Option RecoverCall) (old new : Option DiskState) (x : Unit {0}) (result : Result Ahead RecoverError) → IfErr result (λ e. is_retried e ≡ false) → Steps (call_due due) Goes Stays old new (made x) → MakesCall due old new result
 makes-made None old new x result ends steps = steps.calm refl
 makes-made (Some AskSize) old new x result ends steps = steps.calm refl
 makes-made (Some (ReadPlace place)) old new x result ends steps = steps.calm refl
 makes-made (Some (Change call)) old new x result ends steps = changes_made call old new x result ends steps
 
-abbrev pub err_of : RecoverError → Result (Unit {0}) RecoverError
+abbrev pub err_of : RecoverError → Result Ahead RecoverError
 err_of e = Err e
 
 changes_lost : {Goes : Got → Type 0} {Stays : Type 0} (call : DiskCall) (old new : Option DiskState) (e : DiskError) → Steps (ChangeCall call) Goes Stays old new (lost e) → Changes call old new (err_of (error_from e))
@@ -302,7 +345,7 @@ refused_most (AtImage head count images) e is = absurd (cc is)
 refused_most (AtReplay head epoch images stage) e is = absurd (cc is)
 refused_most (AtReady head) e is = absurd (cc is)
 
-falls_by : (due : Option RecoverCall) (old : ℕ) (view : RecoverView) (result : Result (Unit {0}) RecoverError) → answer_in view ≡ result → IfErr result (λ e. is_retried e ≡ false) → (IsSome due → most_left_in view < old) → Falls due old (most_left_in view) result
+falls_by : (due : Option RecoverCall) (old : ℕ) (view : RecoverView) (result : Result Ahead RecoverError) → answer_in view ≡ result → IfErr result (λ e. is_retried e ≡ false) → (IsSome due → most_left_in view < old) → Falls due old (most_left_in view) result
 falls_by due old view (Ok x) answers ends fell = record { fell = fell; stood = tt; ended = tt }
 falls_by due old view (Err e) answers ends fell = record {
   fell = λ some. tt;
@@ -310,7 +353,7 @@ falls_by due old view (Err e) answers ends fell = record {
   ended = λ over. refused_most view e answers;
 }
 
-pub falls-made : (stage : RecoverStage) (got : Got) (view : RecoverView) (result : Result (Unit {0}) RecoverError) → view ≡ next (view_of stage) got → Reads (view_of stage) got → result ≡ answer_in view → IfErr result (λ e. is_retried e ≡ false) → Falls (due_of stage) (most_left_in (view_of stage)) (most_left_in view) result
+pub falls-made : (stage : RecoverStage) (got : Got) (view : RecoverView) (result : Result Ahead RecoverError) → view ≡ next (view_of stage) got → Reads (view_of stage) got → result ≡ answer_in view → IfErr result (λ e. is_retried e ≡ false) → Falls (due_of stage) (most_left_in (view_of stage)) (most_left_in view) result
 falls-made stage got view result is reads answers ends =
     falls_by (due_of stage) (most_left_in (view_of stage)) view result (sym answers) ends
     (λ some. subst (λ (v : RecoverView). most_left_in v < most_left_in (view_of stage)) (sym is) (most-next stage got reads some))
@@ -328,13 +371,30 @@ falls-lost due old new e error is same = record {
 
 -- ---- the calls that are made
 
-never_out : (result : Result (Unit {0}) RecoverError) → IfErr result (λ e. is_retried e ≡ false) → IsErrOf result Memory → ⊥
+never_out : (result : Result Ahead RecoverError) → IfErr result (λ e. is_retried e ≡ false) → IsErrOf result Memory → ⊥
 never_out (Ok x) ends out = absurd (cc out)
 never_out (Err e) ends out = let same : e ≡ Memory = cc out in absurd (cc (ap is_retried same, ends))
 
-pub called-made : (stage : RecoverStage) (before after : ℕ) (x : Unit {0}) (result : Result (Unit {0}) RecoverError) → IfErr result (λ e. is_retried e ≡ false) → CallsOnce NoMemory (is_due (recover_call stage)) before after (made x) → CallsOnce Memory (is_some (due_of stage)) before after result
+pub called-made : (stage : RecoverStage) (before after : ℕ) (x : Unit {0}) (result : Result Ahead RecoverError) → IfErr result (λ e. is_retried e ≡ false) → CallsOnce NoMemory (is_due (recover_call stage)) before after (made x) → CallsOnce Memory (is_some (due_of stage)) before after result
 called-made stage before after x result ends called = record {
   none = λ is. called.none (due-some stage ∙ is);
   once = λ is no_memory. called.once (due-some stage ∙ is) (λ out. absurd (cc out));
   at_most = λ out. absurd (never_out result ends out);
 }
+
+called_lost : (due : Bool) (before after : ℕ) (e : DiskError) → CallsOnce NoMemory due before after (lost e) → CallsOnce Memory due before after (err_of (error_from e))
+called_lost due before after Failed called = record {
+  none = called.none;
+  once = λ is no_memory. called.once is (λ out. absurd (cc out));
+  at_most = λ out. absurd (cc out);
+}
+called_lost due before after NoMemory called = record {
+  none = called.none;
+  once = λ is no_memory. absurd (no_memory refl);
+  at_most = λ out. called.at_most refl;
+}
+
+pub called-lost : (stage : RecoverStage) (before after : ℕ) (e : DiskError) (error : RecoverError) → error ≡ error_from e → CallsOnce NoMemory (is_due (recover_call stage)) before after (lost e) → CallsOnce Memory (is_some (due_of stage)) before after (err_of error)
+called-lost stage before after e error is called =
+    subst (λ (f : RecoverError). CallsOnce Memory (is_some (due_of stage)) before after (err_of f)) (sym is)
+    (subst (λ (b : Bool). CallsOnce Memory b before after (err_of (error_from e))) (due-some stage) (called_lost (is_due (recover_call stage)) before after e called))

@@ -13,6 +13,7 @@ pub mod Outcomes
 pub mod Plans
 pub mod Progress
 pub mod Recoveries
+pub mod RecoverMoves
 pub mod RecoverSteps
 pub mod RecoverViews
 pub mod Recovering

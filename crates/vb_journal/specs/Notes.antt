@@ -103,18 +103,3 @@ place_after stage place = place_after_in (view_of stage) place
 abbrev pub slots_with : List ℕ → Option (List ℕ) → List ℕ
 slots_with slots None = slots
 slots_with slots (Some image) = slots ++ slot_of image ∷ []
-
--- the image where the step was made
-abbrev pub if_made : {T : Type 0} → Result T RecoverError → Option (List ℕ) → Option (List ℕ)
-if_made (Ok x) image = image
-if_made (Err e) image = None
-
--- the image that a step between these stages read, where it read one
-abbrev pub image_read : {T : Type 0} → RecoverStage → RecoverStage → Result T RecoverError → Option (List ℕ)
-image_read before after result = if is_reading before then if_made result (last_of (images_by after)) else None
-
--- what was noted before a step and by it is what is to be noted after it
-abbrev pub KeepsNotes : {T : Type 0} → RecoverStage → RecoverStage → Result T RecoverError → DiskState → Type 0
-KeepsNotes before after result begun =
-    (place : ℕ) (slots : List ℕ) → HasNotedAt before place slots begun
-    → HasNotedAt after (place_after before place) (slots_with slots (image_read before after result)) begun

@@ -9,6 +9,8 @@ use Rattle.vb_head.specs.declared.head.HeadRead.TheVariants.{Good}
 use Rattle.vb_head.specs.Heads.{IsHead, head_page, head_read}
 use Rattle.vb_journal.specs.declared.commit_stage.Stage.{Stage}
 use Rattle.vb_journal.specs.declared.commit_stage.Stage.TheVariants.{Journal, Opening, Homes, Closing, Rested}
+use Rattle.vb_journal.specs.declared.recover.Ahead.{Ahead}
+use Rattle.vb_journal.specs.declared.recover.Ahead.TheVariants.{More, Ready as AllDone}
 use Rattle.vb_journal.specs.declared.recover_error.RecoverError.{RecoverError}
 use Rattle.vb_journal.specs.declared.recover_error.RecoverError.TheVariants.{NotAStore}
 use Rattle.vb_journal.specs.declared.recover_stage.RecoverStage.{RecoverStage}
@@ -154,15 +156,15 @@ pub record ComesAfter (old : RecoverStage) (got : Got) (new : RecoverStage) : Ty
 abbrev pub IsSame : RecoverStage → RecoverStage → Type 0
 IsSame old new = view_of new ≡ view_of old
 
--- what a step answers that led there: the reason where it is a refusal
-abbrev pub answer_in : RecoverView → Result (Unit {0}) RecoverError
-answer_in AtAsk = Ok tt
-answer_in (AtSettle places) = Ok tt
-answer_in (AtFirst places) = Ok tt
-answer_in (AtSecond places read) = Ok tt
-answer_in (AtMend head other) = Ok tt
-answer_in (AtSettleMend head other) = Ok tt
-answer_in (AtImage head count images) = Ok tt
-answer_in (AtReplay head epoch images stage) = Ok tt
-answer_in (AtReady head) = Ok tt
+-- what a step answers that led there: that calls are left, that none is, or the reason where it is a refusal
+abbrev pub answer_in : RecoverView → Result Ahead RecoverError
+answer_in AtAsk = Ok More
+answer_in (AtSettle places) = Ok More
+answer_in (AtFirst places) = Ok More
+answer_in (AtSecond places read) = Ok More
+answer_in (AtMend head other) = Ok More
+answer_in (AtSettleMend head other) = Ok More
+answer_in (AtImage head count images) = Ok More
+answer_in (AtReplay head epoch images stage) = Ok More
+answer_in (AtReady head) = Ok AllDone
 answer_in (AtRefused why) = Err why

@@ -66,19 +66,6 @@ is_reading (Replay replay) = false
 is_reading (Ready ready) = false
 is_reading (Refused refusal) = false
 
--- whether calls are left
-abbrev pub ahead_at : RecoverStage → Ahead
-ahead_at Ask = More
-ahead_at (Settle size) = More
-ahead_at (ReadFirst size) = More
-ahead_at (ReadSecond first) = More
-ahead_at (Mend mending) = More
-ahead_at (SettleMend mending) = More
-ahead_at (ReadImage journal) = More
-ahead_at (Replay replay) = More
-ahead_at (Ready ready) = AllDone
-ahead_at (Refused refusal) = AllDone
-
 -- More comes where a call is due, and Ready where none is and the store has a head
 abbrev pub IsAheadOf : Ahead → RecoverStage → Type 0
 IsAheadOf More stage = IsSome (due_of stage)

@@ -12,12 +12,11 @@ ghost use Rattle.vb_steps.specs.Steps.{CallsOnce};
 
 use crate::noting::{make_room, note_slot};
 use crate::recover_stage::RecoverStage;
-use crate::recovering::step_from;
 use crate::{Head, Images, RecoverError, Recovery, State};
-use std::alloc::Global;
-use std::mem;
+use std::alloc::{AllocError, Global};
 use vb_block::Page;
 use vb_disk::Disk;
+use vb_steps::{Due, Got, Machine, step};
 
 /// Whether calls of a recovery are left.
 #[derive(Clone, Copy, Debug, PartialEq, Eq)]
@@ -114,26 +113,11 @@ impl Recover {
         ensures steps { RecoverSteps self.old self.new (disk_view (D.told disk.old) (D.seen disk.old) (D.faults disk.old) (D.failures_left disk.old) (D.calls disk.old))
             (disk_view (D.told disk.new) (D.seen disk.new) (D.faults disk.new) (D.failures_left disk.new) (D.calls disk.new)) result }
     {
-        let reads_image = self.stage.reads_image();
-        if make_room(&mut self.slots, reads_image).is_err() {
-            self.lends = false;
-            return Err(RecoverError::Memory);
-        }
-        let stage = mem::replace(&mut self.stage, RecoverStage::Ask);
-        self.place = stage.place_after(self.place);
-        let (stage, result) = step_from(stage, self.alloc, disk);
-        let ahead = stage.ahead();
-        self.stage = stage;
-        match result {
-            Ok(()) => {
-                self.lends = reads_image;
-                note_slot(&mut self.slots, reads_image, &self.stage);
-                Ok(ahead)
-            }
-            Err(error) => {
-                self.lends = false;
-                Err(error)
-            }
+        self.lends = false;
+        let alloc = self.alloc;
+        match step(alloc, self, disk) {
+            Ok(()) => self.stage.answer(),
+            Err(error) => Err(RecoverError::from(error)),
         }
     }
 
@@ -202,5 +186,38 @@ impl Recover {
             _ => unreachable!(),
         };
         1 + self.nodes() + read as u32
+    }
+}
+
+impl Machine for Recover {
+    ghost use Rattle.vb_journal.specs.Recovering.{blocks_of};
+    ghost use Rattle.vb_journal.specs.RecoverMoves.{GoesOn, IsSameRecovery, same_recovery};
+    ghost use Rattle.vb_journal.specs.RecoverViews.{recover_call};
+    ghost use Rattle.vb_journal.specs.Recovers.{recovery_stage};
+
+    ghost call = { λ r. recover_call (recovery_stage r) };
+
+    ghost blocks = { λ r. blocks_of (recovery_stage r) };
+
+    ghost comes_after = { GoesOn };
+
+    ghost is_same = { IsSameRecovery };
+
+    ghost stands = { same_recovery };
+
+    fn due(&self, alloc: Global) -> Result<Due<'_>, AllocError> {
+        self.stage.due(alloc)
+    }
+
+    // The slot of an image is noted as soon as it was read. There is room for it before the stage goes on.
+    fn after(&mut self, alloc: Global, got: Got) -> Result<(), AllocError> {
+        let reads_image = self.stage.reads_image();
+        make_room(&mut self.slots, reads_image)?;
+        let place = self.stage.place_after(self.place);
+        self.stage.after(alloc, got)?;
+        self.place = place;
+        self.lends = reads_image;
+        note_slot(&mut self.slots, reads_image, &self.stage);
+        Ok(())
     }
 }

@@ -1,17 +1,19 @@
 // How far a recovery has come.
-ghost use Rattle.std.specs.Prelude.{◌≡◌, ◌<◌, ℕ, length, Some, IfSome};
+ghost use Rattle.std.specs.Prelude.{◌≡◌, ◌<◌, ℕ, false, length, IfErr, IfSome};
 ghost use Rattle.std.specs.Option.{option_copied};
 ghost use Rattle.vb_block.specs.Pages.{IsSealed};
 ghost use Rattle.vb_journal.specs.Images.{image_at};
 ghost use Rattle.vb_journal.specs.Notes.{place_after};
-ghost use Rattle.vb_journal.specs.Recovers.{ahead_at, is_reading, last_of};
+ghost use Rattle.vb_journal.specs.Recoveries.{is_retried};
+ghost use Rattle.vb_journal.specs.Recovers.{is_reading, last_of};
+ghost use Rattle.vb_journal.specs.RecoverViews.{answer_in, view_of};
 ghost use Rattle.vb_journal.specs.Recovering.{images_by};
 
 use crate::journal::Journal;
 use crate::mending::{ClosedHead, FirstRead, Mending, StoreSize};
 use crate::refusal::Refusal;
 use crate::replay::Replay;
-use crate::{Ahead, Images};
+use crate::{Ahead, Images, RecoverError};
 use vb_block::Page;
 
 /// Which call of a recovery is due.
@@ -40,13 +42,15 @@ pub(crate) enum RecoverStage {
 }
 
 impl RecoverStage {
-    /// Whether a call is left.
-    pub(crate) fn ahead(&self) -> Ahead
-        ensures { result ≡ ahead_at self.now }
+    /// What a step answers that led here: whether a call is left, or why the store can't be recovered.
+    pub(crate) fn answer(&self) -> Result<Ahead, RecoverError>
+        ensures answer { result ≡ answer_in (view_of self.now) }
+        ensures ends { IfErr result (λ error. is_retried error ≡ false) }
     {
         match self {
-            RecoverStage::Ready(_) | RecoverStage::Refused(_) => Ahead::Ready,
-            _ => Ahead::More,
+            RecoverStage::Refused(refusal) => Err(refusal.error),
+            RecoverStage::Ready(_) => Ok(Ahead::Ready),
+            _ => Ok(Ahead::More),
         }
     }
 

@@ -1,22 +1,14 @@
 // How a recovery goes on: which call is due at each stage, and the stage after it.
-ghost use Rattle.std.specs.Prelude.{◌≡◌, ◌≢◌, ◌+◌, ◌≤◌, ◌++◌, ◌∷◌, [], ℕ, List, Some, None, true, false, length, is_some, refl, IfErr, IfOk, IsOk, OnOk};
-ghost use Rattle.vb_disk.specs.Causes.{HasCause, UsesFailures};
-ghost use Rattle.vb_disk.specs.States.{DiskState};
-ghost use Rattle.vb_disk.specs.Within.{CrashesWithin};
+ghost use Rattle.std.specs.Prelude.{◌≡◌, ◌≢◌, ◌+◌, ◌≤◌, ◌++◌, ◌∷◌, [], ℕ, List, None, false, length, IfErr, IfOk, IsOk};
 ghost use Rattle.vb_head.specs.Heads.{head_read, IsHead};
 ghost use Rattle.vb_head.specs.declared.head.Head.{Head};
 ghost use Rattle.vb_journal.specs.Commits.{head_of};
-ghost use Rattle.vb_journal.specs.Interruptions.{is_synced};
 ghost use Rattle.vb_journal.specs.Images.{AreImages};
-ghost use Rattle.vb_journal.specs.Notes.{KeepsNotes};
-ghost use Rattle.vb_journal.specs.Recoveries.{head_choice, image_refusal, is_rebuilding, is_retried, journal_place};
-ghost use Rattle.vb_journal.specs.Recovering.{blocks_of, due_of, is_refused, most_slots, IsRecovering, MakesCall, RecoversOn, SeenStays, StandsAfter, TakesImage, HasEnded};
-ghost use Rattle.vb_journal.specs.RecoverViews.{after_both, answer_in, next, recover_call, replay_from, view_of, with_image, AtSecond, ComesAfter, IsSame, IsSpelled};
+ghost use Rattle.vb_journal.specs.Recoveries.{head_choice, image_refusal, is_rebuilding, journal_place};
+ghost use Rattle.vb_journal.specs.Recovering.{blocks_of};
+ghost use Rattle.vb_journal.specs.RecoverViews.{after_both, next, page_in, recover_call, replay_from, view_of, with_image, AtSecond, ComesAfter, IsSame, IsSpelled};
 ghost use Rattle.vb_journal.specs.RecoverViews.{after_heads as after_both_reads, after_image as after_next_image, after_size as after_any_size};
-ghost use Rattle.vb_journal.specs.RecoveryCalls.{most_calls_left, recovery_calls_left, Falls, Leaves};
-ghost use Rattle.vb_steps.specs.Steps.{CallsOnce};
 ghost use Rattle.vb_steps.specs.Calls.{is_read, seen_after, size_in, Fits, IsPageGot, IsSize};
-ghost use Rattle.vb_journal.specs.RecoverViews.{page_in};
 
 use crate::choice::{LEAST_SIZE, are_one_head, choose_head, other_place};
 use crate::commit::head_due;
@@ -29,54 +21,7 @@ use crate::{Commit, Head, HeadRead, Images, RecoverError, State, read_head};
 use std::alloc::{AllocError, Global};
 use std::mem;
 use vb_block::Page;
-use vb_disk::Disk;
-use vb_steps::{Due, Got, Machine, step};
-
-/// The stage after a step, and what it answers.
-pub(crate) type Stepped = (RecoverStage, Result<(), RecoverError>);
-
-/// Makes the call that is due at a stage.
-pub(crate) fn step_from<D: Disk>(stage: RecoverStage, alloc: Global, disk: &mut D) -> Stepped
-    requires { blocks_of stage ≤ D.seen disk.old }
-    ensures makes { MakesCall (due_of stage) (D.told disk.old) (D.told disk.new) result.1 }
-    ensures error { IfErr result.1 (StandsAfter stage result.0) }
-    ensures known { RecoversOn stage result.0 (D.told disk.old) (D.told disk.new) }
-    ensures list { (begun d : DiskState) → D.told disk.old ≡ Some d → IsRecovering stage begun d
-        → Leaves (due_of stage) (recovery_calls_left stage begun) (recovery_calls_left result.0 begun) result.1 }
-    ensures seen { SeenStays (due_of stage) (D.seen disk.old) (D.seen disk.new) }
-    ensures image { OnOk result.1 (TakesImage stage result.0 (D.told disk.old)) }
-    ensures refused { (error : RecoverError) → HasEnded stage error → result.1 ≡ Err error }
-    ensures blocks { blocks_of result.0 ≤ D.seen disk.new }
-    ensures going { OnOk result.1 (is_refused result.0 ≡ false) }
-    ensures notes { (begun d : DiskState) → D.told disk.old ≡ Some d → IsRecovering stage begun d → KeepsNotes stage result.0 result.1 begun }
-    ensures few { most_slots stage ≤ most_slots result.0 }
-    ensures cause { HasCause RecoverError.DiskFault (D.faults disk.old) (D.faults disk.new) result.1 }
-    ensures order { is_synced stage ≡ true → is_synced result.0 ≡ true }
-    ensures left { UsesFailures RecoverError.DiskFault (D.failures_left disk.old) (D.failures_left disk.new) result.1 }
-    ensures called { CallsOnce RecoverError.Memory (is_some (due_of stage)) (D.calls disk.old) (D.calls disk.new) result.1 }
-    ensures within { CrashesWithin (D.told disk.old) (D.told disk.new) }
-    ensures falls { Falls (due_of stage) (most_calls_left stage) (most_calls_left result.0) result.1 }
-{
-    let mut stage = stage;
-    match step(alloc, &mut stage, disk) {
-        Ok(()) => {
-            let answer = answer(&stage);
-            (stage, answer)
-        }
-        Err(error) => (stage, Err(RecoverError::from(error))),
-    }
-}
-
-// What a step answers that led to a stage: the reason where it is a refusal.
-fn answer(stage: &RecoverStage) -> Result<(), RecoverError>
-    ensures answer { result ≡ answer_in (view_of stage.now) }
-    ensures ends { IfErr result (λ error. is_retried error ≡ false) }
-{
-    match stage {
-        RecoverStage::Refused(refusal) => Err(refusal.error),
-        _ => Ok(()),
-    }
-}
+use vb_steps::{Due, Got, Machine};
 
 impl Machine for RecoverStage {
     ghost use Rattle.std.specs.Prelude.{refl};

@@ -1,2 +1,3 @@
 pub mod RunsKept
 pub mod StepsMade
+pub mod StepsLike

@@ -1,70 +1,111 @@
-use Rattle.std.proofs.Common.{rules, ◌≡◌, ◌∙◌, ℕ, Bool, cond, false, List, Option, None, sym, ap, subst}
-use Rattle.vb_journal.specs.declared.recover.Ahead.{Ahead}
-use Rattle.vb_journal.specs.declared.recover_stage.RecoverStage.{RecoverStage}
-use Rattle.vb_journal.specs.Notes.{HasNotedAt, slots_with}
-use Rattle.vb_journal.specs.Recovering.{MakesCall, IsRecovering, TakesImage, due_of, images_by, is_refused}
-use Rattle.vb_journal.specs.Recovers.{AnswersRecovery, IsAheadOf, Lends, is_reading, last_of}
-use Rattle.vb_journal.proofs.Answering.{ahead-of, ahead_ok, answers-ok, lends-taken, makes-ok, on-ok}
-use Rattle.vb_journal.proofs.NotesKept.{noted-err, noted-ok}
-use Rattle.vb_journal.proofs.StepsOfRecoveries.{stays}
-use Rattle.vb_steps.proofs.StepsMade.{none-within}
+use Rattle.std.proofs.Common.{rules, ◌∙◌, sym, ap, subst}
+use Rattle.vb_journal.specs.Interruptions.{is_synced_in}
+use Rattle.vb_journal.proofs.Answering.{ahead-of, answers-of}
+use Rattle.vb_journal.proofs.RecoverAnswers.{leaves-made, lends-made, makes-gone, makes-went, noted-made, stage-steps, takes-made}
+use Rattle.vb_journal.proofs.RecoverStages.{called-lost, called-made, falls-made, synced-next}
+use Rattle.vb_journal.proofs.RecoverSteps.{failed-known, went-known}
+use Rattle.vb_steps.proofs.StepsLike.{stays-as}
+use Rattle.vb_journal.specs.RecoverViews.{recover_call, view_of}
 use Rattle.vb_journal.proofs.recover.Recover.step.Goals as goal
 
 pub returns-in-Ok-clause-calls : goal.returns-in-Ok-clause-calls
 returns-in-Ok-clause-calls g c =
-    let Q : RecoverStage → Type 0 = λ s. MakesCall (due_of s) (g.D.Disk.told c.args.disk.now) (g.D.Disk.told c.step_from-stage.new.disk) (ahead_ok c.ahead-ahead.result) in
-    subst Q c.replace-stage.ensures.value (makes-ok (due_of c.replace-stage.result) (g.D.Disk.told c.args.disk.now) (g.D.Disk.told c.step_from-stage.new.disk) c.step_from-stage.result.1 c.in-Ok.field-0 c.ahead-ahead.result c.in-Ok.is c.step_from-stage.ensures.makes)
+    makes-went c.args.self.now.stage (g.D.Disk.told c.args.disk.now) (g.D.Disk.told c.step.new.disk) c.in-Ok.field-0 c.answer.result c.answer.ensures.ends c.in-Ok.ensures.steps
 
 pub returns-in-Ok-clause-ahead : goal.returns-in-Ok-clause-ahead
-returns-in-Ok-clause-ahead g c =
-    let going : is_refused c.step_from-stage.result.0 ≡ false = on-ok _ c.step_from-stage.result.1 c.in-Ok.field-0 c.in-Ok.is c.step_from-stage.ensures.going in
-    let Q : Ahead → Type 0 = λ a. IsAheadOf a c.step_from-stage.result.0 in
-    subst Q (sym c.ahead-ahead.ensures) (ahead-of c.step_from-stage.result.0 going)
+returns-in-Ok-clause-ahead g c = ahead-of c.step.new.machine.stage c.answer.result c.answer.ensures.answer
 
 pub returns-in-Ok-clause-image : goal.returns-in-Ok-clause-image
 returns-in-Ok-clause-image g c =
-    let taken : TakesImage c.replace-stage.result c.step_from-stage.result.0 (g.D.Disk.told c.args.disk.now) = on-ok _ c.step_from-stage.result.1 c.in-Ok.field-0 c.in-Ok.is c.step_from-stage.ensures.image in
-    let Q : RecoverStage → Type 0 = λ s. Lends s (cond (is_reading s) (last_of (images_by c.step_from-stage.result.0)) None) (g.D.Disk.told c.args.disk.now) in
-    let R : Bool → Type 0 = λ b. Lends c.args.self.now.stage (cond b (last_of (images_by c.step_from-stage.result.0)) None) (g.D.Disk.told c.args.disk.now) in
-    subst R (sym c.reads_image-reads_image.ensures) (subst Q c.replace-stage.ensures.value (lends-taken c.replace-stage.result c.step_from-stage.result.0 (g.D.Disk.told c.args.disk.now) taken))
+    lends-made c.args.self.now c.step.new.machine (g.D.Disk.told c.args.disk.now) (g.D.Disk.told c.step.new.disk) c.in-Ok.field-0 _ c.answer.result c.answer.ensures.answer c.in-Ok.ensures.steps
+
+pub returns-in-Ok-clause-images : goal.returns-in-Ok-clause-images
+returns-in-Ok-clause-images g c =
+    let was = g.D.Disk.told c.args.disk.now in
+    let then = g.D.Disk.told c.step.new.disk in
+    takes-made c.args.self.now.stage c.step.new.machine.stage was then c.in-Ok.field-0 (Unit {0}) c.answer.result c.answer.ensures.answer
+    (stage-steps c.args.self.now c.step.new.machine was then c.in-Ok.field-0 _ c.in-Ok.ensures.steps)
+
+pub returns-in-Ok-clause-crash : goal.returns-in-Ok-clause-crash
+returns-in-Ok-clause-crash g c begun d told is =
+    let was = g.D.Disk.told c.args.disk.now in
+    let then = g.D.Disk.told c.step.new.disk in
+    went-known begun d c.args.self.now.stage c.step.new.machine.stage was then c.in-Ok.field-0 (Unit {0}) (g.met.D.Disk.valid c.args.disk.now d told) told
+    (stage-steps c.args.self.now c.step.new.machine was then c.in-Ok.field-0 _ c.in-Ok.ensures.steps) is
 
 pub returns-in-Ok-clause-answer : goal.returns-in-Ok-clause-answer
 returns-in-Ok-clause-answer g c begun d told is =
-    let going : is_refused c.step_from-stage.result.0 ≡ false = on-ok _ c.step_from-stage.result.1 c.in-Ok.field-0 c.in-Ok.is c.step_from-stage.ensures.going in
-    let Q : RecoverStage → Type 0 = λ s. IsRecovering s begun d in
-    let steps = c.step_from-stage.ensures.known begun d told (subst Q (sym c.replace-stage.ensures.value) is) in
-    let R : Ahead → Type 0 = λ a. AnswersRecovery begun c.step_from-stage.result.0 (ahead_ok a) in
-    subst R (sym c.ahead-ahead.ensures) (answers-ok begun steps.next c.step_from-stage.result.0 going steps.known)
+    let to = returns-in-Ok-clause-crash g c begun d told is in
+    answers-of begun to.next c.step.new.machine.stage c.answer.result c.answer.ensures.answer to.known
 
-pub returns-then-is_err-clause-crash : goal.returns-then-is_err-clause-crash
-returns-then-is_err-clause-crash g c begun d told is =
-    let stage = c.args.self.now.stage in
-    stays begun d stage stage (g.D.Disk.told c.args.disk.now) told is is
+pub returns-in-Ok-clause-list : goal.returns-in-Ok-clause-list
+returns-in-Ok-clause-list g c begun d told is =
+    let was = g.D.Disk.told c.args.disk.now in
+    let then = g.D.Disk.told c.step.new.disk in
+    leaves-made c.args.self.now.stage c.step.new.machine.stage begun d was then c.in-Ok.field-0 (Unit {0}) c.answer.result c.answer.ensures.ends told
+    (stage-steps c.args.self.now c.step.new.machine was then c.in-Ok.field-0 _ c.in-Ok.ensures.steps) is
 
 pub returns-in-Ok-clause-noted : goal.returns-in-Ok-clause-noted
 returns-in-Ok-clause-noted g c begun d told is has =
-    let before : c.args.self.now.stage ≡ c.replace-stage.result = sym c.replace-stage.ensures.value in
-    let Q : RecoverStage → Type 0 = λ s. IsRecovering s begun d in
-    let N : RecoverStage → Type 0 = λ s. HasNotedAt s c.args.self.now.place c.args.self.now.slots.items begun in
-    let read : Option (List ℕ) = cond c.reads_image-reads_image.result (last_of (images_by c.step_from-stage.result.0)) None in
-    noted-ok begun c.replace-stage.result c.step_from-stage.result.0 c.step_from-stage.result.1 c.in-Ok.field-0 c.reads_image-reads_image.result c.args.self.now.place c.place_after-self.result c.args.self.now.slots.items c.note_slot.new.slots.items c.in-Ok.is
-    (c.reads_image-reads_image.ensures ∙ ap is_reading before) (c.step_from-stage.ensures.notes begun d told (subst Q before is)) (subst N before has) c.place_after-self.ensures
-    (c.note_slot.ensures.slots ∙ ap (λ (l : List ℕ). slots_with l read) c.make_room.ensures.items)
+    noted-made c.args.self.now c.step.new.machine begun d (g.D.Disk.told c.args.disk.now) (g.D.Disk.told c.step.new.disk) c.in-Ok.field-0 _ told c.in-Ok.ensures.steps is has
 
-pub returns-in-Err-clause-noted : goal.returns-in-Err-clause-noted
-returns-in-Err-clause-noted g c begun d told is has =
-    let before : c.args.self.now.stage ≡ c.replace-stage.result = sym c.replace-stage.ensures.value in
-    let Q : RecoverStage → Type 0 = λ s. IsRecovering s begun d in
-    let N : RecoverStage → Type 0 = λ s. HasNotedAt s c.args.self.now.place c.args.self.now.slots.items begun in
-    noted-err begun c.replace-stage.result c.step_from-stage.result.0 c.step_from-stage.result.1 c.in-Err.error c.args.self.now.place c.place_after-self.result c.args.self.now.slots.items c.make_room.new.slots.items c.in-Err.is
-    (c.step_from-stage.ensures.notes begun d told (subst Q before is)) (subst N before has) c.place_after-self.ensures c.make_room.ensures.items
+pub returns-in-Ok-clause-order : goal.returns-in-Ok-clause-order
+returns-in-Ok-clause-order g c was =
+    let went = c.in-Ok.ensures.steps.went in
+    ap is_synced_in went.goes.goes.view_is ∙ synced-next c.args.self.now.stage went.got was
 
-pub returns-then-is_err-clause-within : goal.returns-then-is_err-clause-within
-returns-then-is_err-clause-within g c = none-within (g.D.Disk.told c.args.disk.now) (λ d told. g.met.D.Disk.valid c.args.disk.now d told)
+pub returns-in-Ok-clause-called : goal.returns-in-Ok-clause-called
+returns-in-Ok-clause-called g c =
+    called-made c.args.self.now.stage (g.D.Disk.calls c.args.disk.now) (g.D.Disk.calls c.step.new.disk) c.in-Ok.field-0 c.answer.result c.answer.ensures.ends c.in-Ok.ensures.called
 
-pub returns-then-is_err-clause-steps : goal.returns-then-is_err-clause-steps
-returns-then-is_err-clause-steps g c = record {
-  calls = search rules;
+pub returns-in-Ok-clause-falls : goal.returns-in-Ok-clause-falls
+returns-in-Ok-clause-falls g c =
+    let went = c.in-Ok.ensures.steps.went in
+    falls-made c.args.self.now.stage went.got (view_of c.step.new.machine.stage) c.answer.result went.goes.goes.view_is went.goes.goes.reads c.answer.ensures.answer c.answer.ensures.ends
+
+pub returns-in-Err-clause-calls : goal.returns-in-Err-clause-calls
+returns-in-Err-clause-calls g c =
+    makes-gone c.args.self.now.stage (g.D.Disk.told c.args.disk.now) (g.D.Disk.told c.step.new.disk) c.in-Err.error c.from.result c.from.ensures c.in-Err.ensures.steps
+
+pub returns-in-Err-clause-crash : goal.returns-in-Err-clause-crash
+returns-in-Err-clause-crash g c begun d told is =
+    let was = g.D.Disk.told c.args.disk.now in
+    let then = g.D.Disk.told c.step.new.disk in
+    failed-known begun d c.args.self.now.stage c.step.new.machine.stage was then c.in-Err.error (λ got. Unit {0}) told
+    (stays-as (recover_call c.args.self.now.stage) was then c.in-Err.error c.in-Err.ensures.steps c.in-Err.ensures.steps.stays.same) is
+
+pub returns-in-Ok-clause-steps : goal.returns-in-Ok-clause-steps
+returns-in-Ok-clause-steps g c = record {
+  calls = returns-in-Ok-clause-calls g c;
+  ahead = returns-in-Ok-clause-ahead g c;
+  error = search rules;
+  again = search rules;
+  cause = search rules;
+  differ = search rules;
+  seen = search rules;
+  blocks = search rules;
+  image = returns-in-Ok-clause-image g c;
+  no_image = search rules;
+  images = returns-in-Ok-clause-images g c;
+  answer = returns-in-Ok-clause-answer g c;
+  list = returns-in-Ok-clause-list g c;
+  noted = returns-in-Ok-clause-noted g c;
+  slots = search rules;
+  order = returns-in-Ok-clause-order g c;
+  left = search rules;
+  called = returns-in-Ok-clause-called g c;
+  within = search rules;
+  falls = returns-in-Ok-clause-falls g c;
+  crash = returns-in-Ok-clause-crash g c;
+}
+
+pub returns-in-Err-clause-called : goal.returns-in-Err-clause-called
+returns-in-Err-clause-called g c =
+    called-lost c.args.self.now.stage (g.D.Disk.calls c.args.disk.now) (g.D.Disk.calls c.step.new.disk) c.in-Err.error c.from.result c.from.ensures c.in-Err.ensures.called
+
+pub returns-in-Err-clause-steps : goal.returns-in-Err-clause-steps
+returns-in-Err-clause-steps g c = record {
+  calls = returns-in-Err-clause-calls g c;
   ahead = search rules;
   error = search rules;
   again = search rules;
@@ -81,58 +122,8 @@ returns-then-is_err-clause-steps g c = record {
   slots = search rules;
   order = search rules;
   left = search rules;
-  called = search rules;
-  within = returns-then-is_err-clause-within g c;
-  falls = search rules;
-  crash = returns-then-is_err-clause-crash g c;
-}
-
-pub returns-in-Ok-clause-steps : goal.returns-in-Ok-clause-steps
-returns-in-Ok-clause-steps g c = record {
-  calls = returns-in-Ok-clause-calls g c;
-  ahead = returns-in-Ok-clause-ahead g c;
-  error = search rules;
-  again = search rules;
-  cause = search rules;
-  differ = search rules;
-  seen = search rules;
-  blocks = search rules;
-  image = returns-in-Ok-clause-image g c;
-  no_image = search rules;
-  images = search rules;
-  answer = returns-in-Ok-clause-answer g c;
-  list = search rules;
-  noted = returns-in-Ok-clause-noted g c;
-  slots = search rules;
-  order = search rules;
-  left = search rules;
-  called = search rules;
+  called = returns-in-Err-clause-called g c;
   within = search rules;
   falls = search rules;
-  crash = search rules;
-}
-
-pub returns-in-Err-clause-steps : goal.returns-in-Err-clause-steps
-returns-in-Err-clause-steps g c = record {
-  calls = search rules;
-  ahead = search rules;
-  error = search rules;
-  again = search rules;
-  cause = search rules;
-  differ = search rules;
-  seen = search rules;
-  blocks = search rules;
-  image = search rules;
-  no_image = search rules;
-  images = search rules;
-  answer = search rules;
-  list = search rules;
-  noted = returns-in-Err-clause-noted g c;
-  slots = search rules;
-  order = search rules;
-  left = search rules;
-  called = search rules;
-  within = search rules;
-  falls = search rules;
-  crash = search rules;
+  crash = returns-in-Err-clause-crash g c;
 }
