@@ -11,8 +11,10 @@ pub mod EmptyStores
 pub mod EmptyViewLeft
 pub mod EmptyViews
 pub mod Faultless
+pub mod FileBytes
 pub mod FilesKept
 pub mod HandedOver
+pub mod HeadsMended
 pub mod Homes
 pub mod HomesTold
 pub mod HurtReads
@@ -34,6 +36,7 @@ pub mod PlacesUsed
 pub mod RecoveryRefusals
 pub mod ReferencesInside
 pub mod ReferencesSet
+pub mod RefusedBelow
 pub mod SameJournals
 pub mod SameStores
 pub mod SameTrees
@@ -45,5 +48,4 @@ pub mod TakenDisks
 pub mod TakenHeads
 pub mod TakenRecoveries
 pub mod TreesKept
-pub mod FileBytes
 pub mod ViewsOfClear

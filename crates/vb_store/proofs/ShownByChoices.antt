@@ -28,6 +28,7 @@ use Rattle.vb_store.specs.declared.map_page.MapPage.{MapPage}
 use Rattle.vb_store.specs.Clear.{first_candidates, taken_as, taken_cell}
 use Rattle.vb_store.specs.Metadata.{Metadata, maps_in, metadata_of}
 use Rattle.vb_store.specs.OneOf.{DifferWhereHurt, IsFoundHurt, IsHurtRead, ShowsOrRefuses, TreeView, ViewOf}
+use Rattle.vb_store.specs.Recovered.{entries_read, placed_in}
 use Rattle.vb_store.specs.RecoveredStores.{metadata_on}
 use Rattle.vb_store.specs.Sameness.{IsSameStore}
 use Rattle.vb_store.specs.Views.{data_start}
@@ -45,7 +46,7 @@ pub read_whole : (whole : Bool) (cell : Cell) → whole ≡ true → cell.later 
 read_whole true cell is alone = read_of-alone (taken_cell true cell) alone
 read_whole false cell is alone = absurd (cc is)
 
-whole_unhurt : (whole : Bool) (cell : Cell) → whole ≡ true → (taken_cell whole cell).hurt ≡ None
+pub whole_unhurt : (whole : Bool) (cell : Cell) → whole ≡ true → (taken_cell whole cell).hurt ≡ None
 whole_unhurt true cell is = refl
 whole_unhurt false cell is = absurd (cc is)
 
@@ -92,7 +93,7 @@ below_heads place = nat_lt 1 place
 abbrev pub whole_below : DiskState → DiskState
 whole_below d = taken_as below_heads d
 
-below_is : (place : ℕ) → 2 ≤ place → below_heads place ≡ true
+pub below_is : (place : ℕ) → 2 ≤ place → below_heads place ≡ true
 below_is place past = lt-ltb 1 place (omega arith)
 
 each_read : (new d : DiskState) → IsChoiceOf new d → (place : ℕ) → (read_at new place ≡ read_at (whole_below new) place) ⊎ ReadsHurt (below_heads place) (new.cells place)
@@ -129,11 +130,12 @@ metadata_below d new view head images v is recovers =
     } in
     metadata-same d.size view.metadata v.reads (reads_of w) v.metadata store
 
-pub shows-view : (views : List TreeView) (made : Bool) (d new : DiskState) (view : TreeView) (head : Head) (images : ℕ → List ℕ) → Contains views view → ViewOf d view head images → IsChoiceOf new d → RecoversButHurt (whole_below new) head images → ShowsOrRefuses views made new
-shows-view views made d new view head images listed v is recovers =
+-- so it shows that view, or what is hurt besides is found
+pub shows-below : (views : List TreeView) (made : Bool) (d new : DiskState) (view : TreeView) → Contains views view → IsChoiceOf new d → metadata_of d.size (reads_of (whole_below new)) ≡ Ok view.metadata → entries_read (first_candidates new) (placed_in view.metadata.held) ≡ Ok view.tree → ShowsOrRefuses views made new
+shows-below views made d new view listed is metadata pages =
     let own : metadata_on new ≡ metadata_of d.size (reads_of new) = ap (λ (n : ℕ). metadata_of n (reads_of new)) is.size in
-    elim (metadata-hurt d.size view.metadata (reads_of (whole_below new)) (reads_of new) (metadata_below d new view head images v is recovers) (differ_below new d is)) [
-      | inl same ↦ inl (record { view = view; listed = listed; metadata = own ∙ same; pages = v.pages (first_candidates new) (λ place. (is.each place).picked) })
+    elim (metadata-hurt d.size view.metadata (reads_of (whole_below new)) (reads_of new) metadata (differ_below new d is)) [
+      | inl same ↦ inl (record { view = view; listed = listed; metadata = own ∙ same; pages = pages })
       | inr found ↦ inr (inl (record {
         place = found.place;
         kept = found.kept;
@@ -142,6 +144,10 @@ shows-view views made d new view head images listed v is recovers =
         hurt = hurt_if_unlike (below_heads found.place) (new.cells found.place) (each_read new d is found.place) found.hurt.unlike;
       }))
     ]
+
+pub shows-view : (views : List TreeView) (made : Bool) (d new : DiskState) (view : TreeView) (head : Head) (images : ℕ → List ℕ) → Contains views view → ViewOf d view head images → IsChoiceOf new d → RecoversButHurt (whole_below new) head images → ShowsOrRefuses views made new
+shows-view views made d new view head images listed v is recovers =
+    shows-below views made d new view listed is (metadata_below d new view head images v is recovers) (v.pages (first_candidates new) (λ place. (is.each place).picked))
 
 -- ---- what is refused
 

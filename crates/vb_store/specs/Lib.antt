@@ -1,3 +1,4 @@
+pub mod Beside
 pub mod Clear
 pub mod EmptyStores
 pub mod Formats

@@ -1,5 +1,5 @@
 // Makes a disk an empty store.
-ghost use Rattle.std.specs.Prelude.{◌≡◌, ◌+◌, ◌∷◌, [], ◌<◌, ◌≤◌, min, Some, IsSome, IfOk, OnOk};
+ghost use Rattle.std.specs.Prelude.{◌≡◌, ◌+◌, ◌∷◌, [], ◌<◌, ◌≤◌, false, min, Some, IsSome, IfOk, OnOk};
 ghost use Rattle.vb_cause.specs.Causes.{HasCause, UsesFailures};
 ghost use Rattle.vb_cause.specs.Faults.{counted, greatest_count};
 ghost use Rattle.vb_disk.specs.States.{DiskState, Write, Sync, read_at};
@@ -7,6 +7,7 @@ ghost use Rattle.vb_head.specs.Heads.{IsInRange, head_page, head_read};
 ghost use Rattle.vb_journal.specs.declared.commit_stage.Turn.TheVariants.{First};
 ghost use Rattle.vb_journal.specs.Calls.{turn_calls};
 ghost use Rattle.vb_store.specs.Formats.{format_calls, is_store, store_place, AnswersFormat, CanFormat, LooksAndMakes};
+ghost use Rattle.vb_store.specs.OneOf.{empty_view, RecoversOneOf};
 ghost use Rattle.vb_store.specs.Runs.{MakesAll};
 
 use crate::FormatError;
@@ -30,6 +31,10 @@ pub fn format<D: Disk>(
     ensures answer { (d : DiskState) → D.told disk.old ≡ Some d → AnswersFormat (store_place d) result }
     ensures makes { MakesAll (format_calls id blocks nodes) (D.told disk.old) (D.told disk.new) result }
 
+    // It leaves the view of the empty store alone to be recovered, whatever damage the disk had or gets.
+    ensures recovers { (d : DiskState) → D.told disk.new ≡ Some d
+        → OnOk result (RecoversOneOf (empty_view id blocks nodes ∷ []) false d) }
+
     // A store that stands there stays, whatever fails.
     ensures stays { (d : DiskState) → D.told disk.old ≡ Some d → IsSome (store_place d)
         → D.told disk.new ≡ D.told disk.old }
@@ -43,6 +48,8 @@ pub fn format<D: Disk>(
     if let Some(place) = store_place(alloc, disk)? {
         return Err(FormatError::Formatted { place });
     }
+    // A name has 16 bytes: so the head that is written reads as itself.
+    let _name = id.bytes();
     make_store(alloc, disk, id, blocks, nodes)?;
     Ok(())
 }

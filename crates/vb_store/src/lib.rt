@@ -12,6 +12,7 @@ mod hurt_reads;
 mod known_views;
 mod map_page;
 mod map_reads;
+mod mended_heads;
 mod mount;
 mod mount_homes;
 mod mount_maps;
@@ -45,6 +46,7 @@ pub use known_views::{
     a_commit_recovers_the_old_view_or_the_new_one, a_format_leaves_the_empty_view,
     a_store_at_rest_recovers_its_view,
 };
+pub use mended_heads::a_mended_head_keeps_what_may_be_recovered;
 pub use mount::Mount;
 pub use one_of::{
     a_clear_disk_recovers_one_of_its_views, a_view_of_a_disk_stays, what_may_be_recovered_stays,
