@@ -1,5 +1,5 @@
 -- The head that counts, written over the other one, leaves the same views to be recovered.
-use Rattle.std.proofs.Common.{◌≡◌, ◌≢◌, ℕ, zero, suc, ◌-◌, ◌≤◌, ◌<◌, Bool, true, false, cond, eqb, List, [], ◌∷◌, Option, Some, None, unwrap_or, Result, Ok, Err, refl, sym, ap, subst, ◌∙◌, ◌⊎◌, inl, inr, arith}
+use Rattle.std.proofs.Common.{◌≡◌, ◌≢◌, ℕ, zero, suc, ◌-◌, ◌≤◌, ◌<◌, Bool, true, false, cond, eqb, List, [], ◌∷◌, None, Ok, refl, sym, ap, subst, ◌∙◌, inl, inr, arith}
 use Rattle.std.specs.List.{All, Contains}
 use Rattle.std.proofs.lemmas.Bool.{cond-true, cond-false, eq-eqb, eqb-true, ltb-false, ne_eqb}
 use Rattle.std.proofs.lemmas.List.Elements.{All-cons, All-nil, All-weaker}
@@ -11,21 +11,18 @@ use Rattle.vb_disk.specs.Misses.{IsMiss}
 use Rattle.vb_disk.specs.States.{DiskState, IsDiskState, read_at, written}
 use Rattle.vb_head.specs.declared.head.Head.{Head}
 use Rattle.vb_head.specs.Heads.{IsHead, head_page, head_read}
-use Rattle.vb_journal.specs.declared.recover_error.RecoverError.{RecoverError}
-use Rattle.vb_journal.specs.declared.recover_error.RecoverError.TheVariants.{NotAStore, Damaged, Rebuilding}
 use Rattle.vb_journal.specs.Choices.{IsCellOf, IsChoiceOf}
-use Rattle.vb_journal.specs.Outcomes.{IsHurt, reads_of, recovery_on}
-use Rattle.vb_journal.specs.Progress.{Fixed, Has, Tried, Trying}
-use Rattle.vb_journal.specs.Recoveries.{choice_of, recovery_of}
+use Rattle.vb_journal.specs.Outcomes.{reads_of}
+use Rattle.vb_journal.specs.Progress.{Fixed, Has, Trying}
+use Rattle.vb_journal.specs.Recoveries.{choice_of}
 use Rattle.vb_journal.proofs.Choices.{IsChosen-from, chosen-again}
 use Rattle.vb_journal.proofs.ChoicesOf.{IsChoiceOf-hurt}
 use Rattle.vb_journal.proofs.Found.{IsRefused-gone}
-use Rattle.vb_journal.proofs.Heads.{AreGone, OneCounts-both, StandsOrHurt-Fixed, counting}
+use Rattle.vb_journal.proofs.Heads.{OneCounts-both, StandsOrHurt-Fixed}
 use Rattle.vb_journal.proofs.SameRecoveries.{choice_of-same, recovery_of-same}
-use Rattle.vb_journal.proofs.Settled.{read_of-alone}
-use Rattle.vb_journal.proofs.TriedCells.{Has-here, alone_of, picked_of, written-elsewhere, written-here}
+use Rattle.vb_journal.proofs.TriedCells.{Has-here, alone_of, picked_of, written-elsewhere}
 use Rattle.vb_store.specs.declared.map_page.MapPage.{MapPage}
-use Rattle.vb_store.specs.Beside.{IsBelowHeads, IsChosenBeside, MayFailBelow, MayReadAs, head_reads}
+use Rattle.vb_store.specs.Beside.{IsChosenBeside, MayFailBelow, MayReadAs, head_reads}
 use Rattle.vb_store.specs.Clear.{first_candidates, taken_cell}
 use Rattle.vb_store.specs.EmptyStores.{whole_cell}
 use Rattle.vb_store.specs.Metadata.{Metadata, maps_in, metadata_of}
@@ -42,7 +39,6 @@ use Rattle.vb_store.proofs.RefusedBelow.{metadata-below}
 use Rattle.vb_store.proofs.SameStores.{metadata-same}
 use Rattle.vb_store.proofs.SameTrees.{entries_of_held}
 use Rattle.vb_store.proofs.ShownByChoices.{below_heads, below_is, read_whole, shows-below, shows-refused, whole_below}
-use Rattle.vb_store.proofs.TakenDisks.{IsDiskState-taken}
 use Rattle.vb_store.proofs.TreesKept.{pages_kept}
 
 -- what holds of the place of a head and of the other one holds of both

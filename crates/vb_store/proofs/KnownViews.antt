@@ -1,27 +1,26 @@
 -- What may be recovered from a store at rest, and from one in the midst of a commit.
-use Rattle.std.proofs.Common.{◌≡◌, ℕ, ◌+◌, ◌<◌, ◌≤◌, Bool, true, false, List, [], ◌∷◌, length, Result, Ok, refl, sym, ap, subst, ◌∙◌, ◌⊎◌, inl, inr, arith}
+use Rattle.std.proofs.Common.{◌≡◌, ℕ, ◌+◌, ◌≤◌, Bool, true, List, [], ◌∷◌, length, Ok, refl, sym, ap, subst, ◌∙◌, ◌⊎◌, inl, inr, arith}
 use Rattle.std.specs.List.{All, Contains}
 use Rattle.std.proofs.lemmas.List.Elements.{All-cons, All-nil}
 use Rattle.vb_disk.specs.declared.cell.Cell.{Cell}
-use Rattle.vb_disk.specs.Cells.{candidates, read_of}
+use Rattle.vb_disk.specs.Cells.{candidates}
 use Rattle.vb_disk.specs.States.{DiskState, read_at}
 use Rattle.vb_head.specs.declared.head.Head.{Head}
 use Rattle.vb_head.specs.declared.head.State.TheVariants.{Closed}
 use Rattle.vb_head.specs.Heads.{IsHead, IsInRange, head_page, head_read}
 use Rattle.vb_journal.specs.declared.commit_stage.Stage.{Stage}
 use Rattle.vb_journal.specs.declared.commit_stage.Stage.TheVariants.{Journal, Opening, Homes, Closing, Rested}
-use Rattle.vb_journal.specs.declared.commit_stage.Turn.{Turn}
 use Rattle.vb_journal.specs.Choices.{IsChoiceOf}
 use Rattle.vb_journal.specs.Chosen.{EachChoiceStays, IsRefusedAsHurt, RecoversButHurt}
 use Rattle.vb_journal.specs.Interruptions.{AreSettled}
 use Rattle.vb_journal.specs.Outcomes.{reads_of, recovery_on}
-use Rattle.vb_journal.specs.Plans.{CanGoOn, closed_head, is_early}
+use Rattle.vb_journal.specs.Plans.{CanGoOn, closed_head}
 use Rattle.vb_journal.specs.Progress.{Fixed, Has, IsAtRest, IsCommitting, new_images}
 use Rattle.vb_journal.specs.Recoveries.{recovery_of}
 use Rattle.vb_journal.specs.Shown.{good_of, pages_from}
 use Rattle.vb_journal.proofs.AfterCrashes.{closed_counts}
 use Rattle.vb_journal.proofs.ChosenDisks.{EachChoiceRecovers-stage, EachChoiceStays-journal, EachChoiceStays-rest}
-use Rattle.vb_journal.proofs.Heads.{counting, good_of-head_page, greater-same}
+use Rattle.vb_journal.proofs.Heads.{good_of-head_page, greater-same}
 use Rattle.vb_journal.proofs.TriedCells.{alone_of}
 use Rattle.vb_journal.proofs.Unharmed.{whole_found}
 use Rattle.vb_store.specs.declared.map_page.MapPage.{MapPage}
@@ -76,12 +75,12 @@ RecoversOneOf-stage views made head epoch images homes journal Rested d can know
 
 -- ---- the view of a disk each place of which has one candidate
 
-all_each : {X : Type 0} (P : X → Type 0) → ((x : X) → P x) → (xs : List X) → All P xs
+pub all_each : {X : Type 0} (P : X → Type 0) → ((x : X) → P x) → (xs : List X) → All P xs
 all_each P holds [] = All-nil P
 all_each P holds (x ∷ xs) = All-cons P x xs (holds x) (all_each P holds xs)
 
 -- the one candidate of a place
-only_one : (cell : Cell) (page : List ℕ) → cell.later ≡ [] → Contains (candidates cell) page → page ≡ cell.first
+pub only_one : (cell : Cell) (page : List ℕ) → cell.later ≡ [] → Contains (candidates cell) page → page ≡ cell.first
 only_one cell page alone has = alone_of cell.first page (subst (λ (l : List (List ℕ)). Contains (cell.first ∷ l) page) alone has)
 
 -- the disk with each place taken as whole
@@ -112,16 +111,20 @@ firsts_picked picked d settled each =
     let same : (place : ℕ) → picked place ≡ (d.cells place).first = λ place. only_one (d.cells place) (picked place) (settled place) (each place) in
     λ i place. same place i
 
+-- what its candidates give is its view
+pub ViewOf-recovered : (head : Head) (images : ℕ → List ℕ) (d : DiskState) (view : TreeView) → AreSettled d → recovery_of d.size (first_candidates d) ≡ Ok (record { head = head; images = pages_from images 0 head.nodes }) → metadata_of d.size (first_candidates d) ≡ Ok view.metadata → entries_read (first_candidates d) (placed_in view.metadata.held) ≡ Ok view.tree → ViewOf d view head images
+ViewOf-recovered head images d view settled recovery metadata pages = record {
+  reads = first_candidates d;
+  metadata = metadata;
+  recovery = recovery;
+  maps = all_each (λ (map : MapPage). (page : List ℕ) → Contains (candidates (d.cells map.reference.place)) page → page ≡ first_candidates d map.reference.place)
+      (λ map page has. only_one (d.cells map.reference.place) page (settled map.reference.place) has) (maps_in view.metadata.held);
+  pages = λ picked each. ap (λ (firsts : ℕ → List ℕ). entries_read firsts (placed_in view.metadata.held)) (firsts_picked picked d settled each) ∙ pages;
+}
+
 pub ViewOf-settled : (head : Head) (homes journal : ℕ → List ℕ) (d : DiskState) (view : TreeView) → IsInRange head → head.state ≡ Closed → IsAtRest head homes journal d → AreSettled d → metadata_of d.size (first_candidates d) ≡ Ok view.metadata → entries_read (first_candidates d) (placed_in view.metadata.held) ≡ Ok view.tree → ViewOf d view head homes
 unfolding all_whole
 ViewOf-settled head homes journal d view range closed rests settled metadata pages =
     let read : (place : ℕ) → read_at (all_whole d) place ≡ first_candidates d place = λ place. read_whole true (d.cells place) refl (settled place) in
     let reads : reads_of (all_whole d) ≡ first_candidates d = λ i place. read place i in
-    record {
-      reads = first_candidates d;
-      metadata = metadata;
-      recovery = ap (recovery_of d.size) (sym reads) ∙ rests_as head homes journal d range closed rests settled;
-      maps = all_each (λ (map : MapPage). (page : List ℕ) → Contains (candidates (d.cells map.reference.place)) page → page ≡ first_candidates d map.reference.place)
-          (λ map page has. only_one (d.cells map.reference.place) page (settled map.reference.place) has) (maps_in view.metadata.held);
-      pages = λ picked each. ap (λ (firsts : ℕ → List ℕ). entries_read firsts (placed_in view.metadata.held)) (firsts_picked picked d settled each) ∙ pages;
-    }
+    ViewOf-recovered head homes d view settled (ap (recovery_of d.size) (sym reads) ∙ rests_as head homes journal d range closed rests settled) metadata pages

@@ -1,5 +1,5 @@
 -- Where a head counts, metadata are refused below the heads alone.
-use Rattle.std.proofs.Common.{◌≡◌, ℕ, zero, suc, ◌+◌, ◌≤◌, Bool, true, false, cond, eqb, not, ◌||◌, ◌==◌, nat_lt, List, [], ◌∷◌, ◌++◌, length, Option, Some, None, Result, Ok, Err, refl, sym, ap, subst, ◌∙◌, arith}
+use Rattle.std.proofs.Common.{◌≡◌, ℕ, zero, suc, ◌+◌, ◌≤◌, Bool, true, false, cond, eqb, not, ◌||◌, ◌==◌, nat_lt, List, [], ◌∷◌, ◌++◌, length, Option, Some, None, Result, Ok, Err, refl, sym, subst, ◌∙◌, arith}
 use Rattle.std.specs.Result.{result_err}
 use Rattle.std.specs.Str.{bytes_eq}
 use Rattle.sha2.specs.Sha256.{sha256}
@@ -17,7 +17,7 @@ use Rattle.vb_inode.specs.declared.errors.MapError.{MapError}
 use Rattle.vb_inode.specs.declared.errors.MapError.TheVariants.{Wrong as WrongMap, Memory as NoMemoryForMap}
 use Rattle.vb_inode.specs.Reading.{map_read, node_read}
 use Rattle.vb_journal.specs.declared.recover_error.RecoverError.{RecoverError}
-use Rattle.vb_journal.specs.declared.recover_error.RecoverError.TheVariants.{NotAStore, Damaged, Unfit, Rebuilding, DiskFault, Memory}
+use Rattle.vb_journal.specs.declared.recover_error.RecoverError.TheVariants.{Damaged, Unfit}
 use Rattle.vb_journal.specs.Images.{slot_of}
 use Rattle.vb_journal.specs.Notes.{head_place, journal_slots}
 use Rattle.vb_journal.specs.Recoveries.{choice_of, image_refusal, is_named, journal_of, journal_place, or_refusal}
@@ -28,7 +28,7 @@ use Rattle.vb_nodes.specs.Holdings.{index_from}
 use Rattle.vb_store.specs.declared.map_page.MapPage.{MapPage}
 use Rattle.vb_store.specs.Beside.{IsBelowHeads, MayFailBelow}
 use Rattle.vb_store.specs.Metadata.{Mapped, Metadata, Standing, after_claim, after_page, all_claimed_by, and_then, block_of, claimed_by, claims_or_refusal, image_fault, images_fault, index_or_refusal, journal_fault, known_below, map_checked, mapped_from, maps_in, maps_left, metadata_from, metadata_of, no_claims, node_checked, node_or_refusal, nodes_left, place_over, refs_or_refusal, refuse, unless, with_refs_at}
-use Rattle.vb_store.specs.Views.{data_start, limits_of}
+use Rattle.vb_store.specs.Views.{limits_of}
 use Rattle.vb_store.proofs.ClaimsMade.{after_claim-named, after_page-first}
 
 -- ---- one check after another

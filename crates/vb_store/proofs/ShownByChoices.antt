@@ -1,9 +1,9 @@
 -- What a choice of a disk shows: where its heads are as they are and all else is whole the journal's laws say what is
 -- recovered, and what is hurt besides is found.
-use Rattle.std.proofs.Common.{◌≡◌, ◌≢◌, ℕ, zero, suc, ◌+◌, ◌<◌, ◌≤◌, Bool, true, false, cond, not, ◌||◌, nat_lt, List, [], ◌∷◌, ◌++◌, length, Option, Some, None, unwrap_or, Result, Ok, Err, refl, sym, ap, subst, ◌∙◌, ◌⊎◌, inl, inr, arith}
-use Rattle.std.specs.List.{All, Contains}
+use Rattle.std.proofs.Common.{◌≡◌, ◌≢◌, ℕ, ◌+◌, ◌<◌, ◌≤◌, Bool, true, false, cond, not, ◌||◌, nat_lt, List, [], ◌∷◌, ◌++◌, Option, Some, None, unwrap_or, Result, Ok, Err, refl, sym, ap, subst, ◌∙◌, ◌⊎◌, inl, inr, arith}
+use Rattle.std.specs.List.{Contains}
 use Rattle.std.proofs.lemmas.Bool.{cases_lt, lt-ltb}
-use Rattle.std.proofs.lemmas.List.Elements.{All-cons, All-head, All-nil, All-tail}
+use Rattle.std.proofs.lemmas.List.Elements.{All-head}
 use Rattle.sha2.specs.Sha256.{sha256}
 use Rattle.vb_block.specs.Pages.{IsSealed, seal_of, sealed_part}
 use Rattle.vb_block.specs.declared.why.Why.TheVariants.{Slot}
@@ -14,11 +14,11 @@ use Rattle.vb_disk.specs.States.{DiskState, read_at}
 use Rattle.vb_head.specs.declared.head.Head.{Head}
 use Rattle.vb_journal.specs.declared.recover_error.RecoverError.{RecoverError}
 use Rattle.vb_journal.specs.declared.recover_error.RecoverError.TheVariants.{NotAStore, Damaged, Unfit, Rebuilding, DiskFault, Memory}
-use Rattle.vb_journal.specs.Choices.{IsCellOf, IsChoiceOf}
+use Rattle.vb_journal.specs.Choices.{IsChoiceOf}
 use Rattle.vb_journal.specs.Chosen.{IsRefusedAsHurt, RecoversButHurt}
 use Rattle.vb_journal.specs.Images.{slot_of}
 use Rattle.vb_journal.specs.Outcomes.{IsHurt, reads_of, recovery_on}
-use Rattle.vb_journal.specs.Recoveries.{Recovered, choice_of, image_refusal, images_refusal, is_named, journal_of, journal_place, journal_refusal, or_refusal, recovered_from, recovery_of}
+use Rattle.vb_journal.specs.Recoveries.{Recovered, choice_of, image_refusal, images_refusal, is_named, journal_of, journal_place, journal_refusal, or_refusal, recovery_of}
 use Rattle.vb_journal.specs.Recovering.{newest_of}
 use Rattle.vb_journal.specs.Shown.{pages_from}
 use Rattle.vb_journal.proofs.SameRecoveries.{choice_of-same, recovery_of-chosen}
@@ -26,15 +26,15 @@ use Rattle.vb_journal.proofs.Settled.{read_of-alone}
 use Rattle.vb_journal.proofs.Unharmed.{whole_found}
 use Rattle.vb_store.specs.declared.map_page.MapPage.{MapPage}
 use Rattle.vb_store.specs.Clear.{first_candidates, taken_as, taken_cell}
-use Rattle.vb_store.specs.Metadata.{Metadata, maps_in, metadata_of}
-use Rattle.vb_store.specs.OneOf.{DifferWhereHurt, IsFoundHurt, IsHurtRead, ShowsOrRefuses, TreeView, ViewOf}
+use Rattle.vb_store.specs.Metadata.{maps_in, metadata_of}
+use Rattle.vb_store.specs.OneOf.{DifferWhereHurt, ShowsOrRefuses, TreeView, ViewOf}
 use Rattle.vb_store.specs.Recovered.{entries_read, placed_in}
 use Rattle.vb_store.specs.RecoveredStores.{metadata_on}
 use Rattle.vb_store.specs.Sameness.{IsSameStore}
 use Rattle.vb_store.specs.Views.{data_start}
 use Rattle.vb_store.proofs.CrashesOfMounts.{has_metadata, maps-in_data}
 use Rattle.vb_store.proofs.HurtReads.{metadata-hurt}
-use Rattle.vb_store.proofs.OneOfThem.{IsChoiceOf-taken, all_both}
+use Rattle.vb_store.proofs.OneOfThem.{all_both}
 use Rattle.vb_store.proofs.RecoveryRefusals.{from_refused}
 use Rattle.vb_store.proofs.SameStores.{metadata-same}
 use Rattle.vb_store.proofs.SoundImages.{metadata-refused}

@@ -1,6 +1,7 @@
 // Stores: a folder's tree on a disk, how one is made and recovered, and the view of its committed state.
 #![tactic(auto)]
 
+mod beside;
 mod clear_disks;
 mod clear_mounts;
 mod empty_stores;
@@ -32,6 +33,7 @@ mod used_places;
 mod view;
 mod whole;
 
+pub use beside::a_recovery_goes_on_beside_damage;
 pub use clear_disks::a_crash_leaves_a_clear_disk;
 pub use clear_mounts::{a_mount_leaves_a_clear_disk, a_sync_leaves_a_clear_disk};
 pub use empty_stores::{
