@@ -11,7 +11,7 @@ use Rattle.vb_journal.specs.declared.recover_stage.RecoverStage.{RecoverStage}
 use Rattle.vb_journal.specs.declared.recover_stage.RecoverStage.TheVariants.{Ask, Settle, ReadFirst, ReadSecond, Mend, SettleMend, ReadImage, Replay, Ready, Refused}
 use Rattle.vb_journal.specs.Commits.{calls_left}
 use Rattle.vb_journal.specs.Recoveries.{Recovered, is_retried, node_images, recovered_from, settled_head}
-use Rattle.vb_journal.specs.Outcomes.{reads_of}
+use Rattle.vb_journal.specs.Outcomes.{reads_of, recovery_on}
 use Rattle.vb_journal.specs.Recovering.{HasEnded, IsHopeless, IsRecovered, IsRecovering, StandsAfter, TakesImage, first_change, images_by}
 use Rattle.vb_journal.specs.Recovers.{AnswersRecovery, HasHead, IsAheadOf, Lends, is_reading, last_of}
 use Rattle.vb_journal.specs.RecoverViews.{RecoverView, answer_in, next, recover_call, view_of}
@@ -66,7 +66,7 @@ stands_of old (Refused refusal) = ended_stands old (Refused refusal) refusal.err
 pub stands-of : (old new : RecoverStage) (result : Result Ahead RecoverError) → result ≡ answer_in (view_of new) → IfErr result (StandsAfter old new)
 stands-of old new result answers = subst (λ (r : Result Ahead RecoverError). IfErr r (StandsAfter old new)) (sym answers) (stands_of old new)
 
-abbrev refused_with : RecoverError → Result Ahead RecoverError
+abbrev pub refused_with : RecoverError → Result Ahead RecoverError
 refused_with e = Err e
 
 -- one that has ended gives the same answer
@@ -166,3 +166,18 @@ answers_of begun d (Refused refusal) known = hopeless_answers begun d (Refused r
 
 pub answers-of : (begun d : DiskState) (stage : RecoverStage) (result : Result Ahead RecoverError) → result ≡ answer_in (view_of stage) → IsRecovering stage begun d → AnswersRecovery begun stage result
 answers-of begun d stage result answers known = subst (AnswersRecovery begun stage) (sym answers) (answers_of begun d stage known)
+
+-- a refusal is what the disk recovers to
+pub hopeless-of : (begun d : DiskState) (stage : RecoverStage) (e : RecoverError) → answer_in (view_of stage) ≡ refused_with e → IsRecovering stage begun d → HasEnded stage e × (recovery_on begun ≡ Err e)
+hopeless-of begun d (Refused refusal) e is known =
+    let same : refusal.error ≡ e = cc is in
+    (same, known.recovery ∙ ap (λ (x : RecoverError). let r : Result Recovered RecoverError = Err x in r) same)
+hopeless-of begun d Ask e is known = absurd (cc is)
+hopeless-of begun d (Settle size) e is known = absurd (cc is)
+hopeless-of begun d (ReadFirst size) e is known = absurd (cc is)
+hopeless-of begun d (ReadSecond first) e is known = absurd (cc is)
+hopeless-of begun d (Mend mending) e is known = absurd (cc is)
+hopeless-of begun d (SettleMend mending) e is known = absurd (cc is)
+hopeless-of begun d (ReadImage journal) e is known = absurd (cc is)
+hopeless-of begun d (Replay replay) e is known = absurd (cc is)
+hopeless-of begun d (Ready ready) e is known = absurd (cc is)

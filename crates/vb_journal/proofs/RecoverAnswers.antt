@@ -42,11 +42,14 @@ makes-gone {Goes} {Stays} stage old new e error is steps =
 
 -- ---- the calls that are left
 
+pub first-made : (before then : RecoverStage) (begun d : DiskState) (old new : Option DiskState) (x : Unit {0}) (Stays : Type 0) → old ≡ Some d → Steps (recover_call before) (λ got. ComesAfter before got then) Stays old new (made x) → IsRecovering before begun d → IsFirst (due_of before) (recovery_calls_left before begun) (recovery_calls_left then begun)
+first-made before then begun d old new x Stays told steps is =
+    subst (λ (v : RecoverView). IsFirst (due_of before) (recovery_calls_left before begun) (calls_left_in v begun)) (sym (view-next before then d old new x Stays steps told))
+    (first-next before begun d (reads-next before then d old new x Stays steps told) is)
+
 pub leaves-made : (before then : RecoverStage) (begun d : DiskState) (old new : Option DiskState) (x : Unit {0}) (Stays : Type 0) (result : Result Ahead RecoverError) → IfErr result (λ e. is_retried e ≡ false) → old ≡ Some d → Steps (recover_call before) (λ got. ComesAfter before got then) Stays old new (made x) → IsRecovering before begun d → Leaves (due_of before) (recovery_calls_left before begun) (recovery_calls_left then begun) result
 leaves-made before then begun d old new x Stays result ends told steps is =
-    leaves-first (due_of before) (recovery_calls_left before begun) (recovery_calls_left then begun) result ends
-    (subst (λ (v : RecoverView). IsFirst (due_of before) (recovery_calls_left before begun) (calls_left_in v begun)) (sym (view-next before then d old new x Stays steps told))
-    (first-next before begun d (reads-next before then d old new x Stays steps told) is))
+    leaves-first (due_of before) (recovery_calls_left before begun) (recovery_calls_left then begun) result ends (first-made before then begun d old new x Stays told steps is)
 
 -- ---- the image
 

@@ -21,7 +21,7 @@ use Rattle.vb_journal.specs.declared.recover_stage.RecoverStage.TheVariants.{Ask
 use Rattle.vb_journal.specs.Interruptions.{is_synced_in}
 use Rattle.vb_journal.specs.Plans.{calls_from, next_stage}
 use Rattle.vb_journal.specs.Recoveries.{are_one_head, error_from, head_choice, image_refusal, is_retried, journal_place, greater_place}
-use Rattle.vb_journal.specs.Recovering.{AskSize, Change, Changes, MakesCall, ReadPlace, RecoverCall, TakesImage, due_of, first_change, images_in_view, most_slots, most_slots_in}
+use Rattle.vb_journal.specs.Recovering.{AskSize, Change, Changes, MakesCall, ReadPlace, RecoverCall, SeenStays, TakesImage, due_of, first_change, images_in_view, most_slots, most_slots_in}
 use Rattle.vb_journal.specs.Recovers.{is_reading}
 use Rattle.vb_journal.specs.RecoveryCalls.{Falls, most_for, most_left_in}
 use Rattle.vb_journal.specs.Shown.{good_of}
@@ -32,7 +32,7 @@ use Rattle.vb_journal.proofs.HeadReads.{chosen-is}
 use Rattle.vb_journal.proofs.Replays.{late-going}
 use Rattle.vb_journal.proofs.RecoverSteps.{lost, made}
 use Rattle.vb_steps.specs.declared.due.Got.{Got}
-use Rattle.vb_steps.specs.Calls.{Ask as AskCall, Call, Change as ChangeCall, ReadPlace as ReadCall, Rest, answer_of, is_due, size_in}
+use Rattle.vb_steps.specs.Calls.{Ask as AskCall, Call, Change as ChangeCall, ReadPlace as ReadCall, Rest, SeenStays as SeenAfter, answer_of, is_due, size_in}
 use Rattle.vb_steps.specs.Steps.{CallsOnce, Steps}
 
 -- ---- the first sync stays made
@@ -358,15 +358,15 @@ falls-made stage got view result is reads answers ends =
     falls_by (due_of stage) (most_left_in (view_of stage)) view result (sym answers) ends
     (λ some. subst (λ (v : RecoverView). most_left_in v < most_left_in (view_of stage)) (sym is) (most-next stage got reads some))
 
-retried_from : (e : DiskError) → is_retried (error_from e) ≡ true
-retried_from Failed = refl
-retried_from NoMemory = refl
+pub retried-from : (e : DiskError) → is_retried (error_from e) ≡ true
+retried-from Failed = refl
+retried-from NoMemory = refl
 
 pub falls-lost : (due : Option RecoverCall) (old new : ℕ) (e : DiskError) (error : RecoverError) → error ≡ error_from e → new ≡ old → Falls due old new (err_of error)
 falls-lost due old new e error is same = record {
   fell = λ some. tt;
   stood = λ again. same;
-  ended = λ over. let again : is_retried error ≡ true = ap is_retried is ∙ retried_from e in absurd (cc (again, over));
+  ended = λ over. let again : is_retried error ≡ true = ap is_retried is ∙ retried-from e in absurd (cc (again, over));
 }
 
 -- ---- the calls that are made
@@ -398,3 +398,13 @@ pub called-lost : (stage : RecoverStage) (before after : ℕ) (e : DiskError) (e
 called-lost stage before after e error is called =
     subst (λ (f : RecoverError). CallsOnce Memory (is_some (due_of stage)) before after (err_of f)) (sym is)
     (subst (λ (b : Bool). CallsOnce Memory b before after (err_of (error_from e))) (due-some stage) (called_lost (is_due (recover_call stage)) before after e called))
+
+seen_due : (due : Option RecoverCall) (old new : ℕ) → SeenAfter (call_due due) old new → SeenStays due old new
+seen_due None old new seen = seen
+seen_due (Some AskSize) old new seen = seen
+seen_due (Some (ReadPlace place)) old new seen = seen
+seen_due (Some (Change call)) old new seen = seen
+
+-- the seen size
+pub seen-due : (stage : RecoverStage) (old new : ℕ) → SeenAfter (recover_call stage) old new → SeenStays (due_of stage) old new
+seen-due stage old new seen = seen_due (due_of stage) old new (subst (λ (c : Call). SeenAfter c old new) (due-is stage) seen)

@@ -1,5 +1,5 @@
 // A recovery: which head of a store counts, and what its journal holds, one call of the disk at a time.
-ghost use Rattle.std.specs.Prelude.{true, ◌≡◌, ◌≢◌, ◌≤◌, ◌+◌, ℕ, List, length, is_some, Some, None, IfOk, IfErr, IfSome, OnOk, OnErr, IsSome, vec_len};
+ghost use Rattle.std.specs.Prelude.{true, false, ◌≡◌, ◌≢◌, ◌≤◌, ◌+◌, ℕ, List, length, is_some, Some, None, IfOk, IfErr, IfSome, OnOk, OnErr, IsSome, vec_len};
 ghost use Rattle.std.specs.Option.{option_copied};
 ghost use Rattle.vb_block.specs.Pages.{IsSealed};
 ghost use Rattle.vb_disk.specs.Causes.{HasCause, UsesFailures};
@@ -45,6 +45,8 @@ impl Recover {
     ghost use Rattle.vb_journal.specs.Notes.{slots_noted, slots_with, HasNoted, IsNoted};
     ghost use Rattle.vb_journal.specs.RecoverSteps.{RecoverSteps};
     ghost use Rattle.vb_journal.specs.Outcomes.{reads_of};
+    ghost use Rattle.vb_journal.specs.Recoveries.{is_retried};
+    ghost use Rattle.vb_journal.specs.RecoverViews.{answer_in, view_of};
     ghost use Rattle.vb_journal.specs.RecoveryCalls.{most_calls_left, recovery_calls, recovery_calls_left, Falls, Leaves};
     ghost use Rattle.vb_journal.specs.Recovers.{lent_image, ready_head, recovery_stage, AnswersRecovery, IsAheadOf, Lends};
 
@@ -116,9 +118,19 @@ impl Recover {
         self.lends = false;
         let alloc = self.alloc;
         match step(alloc, self, disk) {
-            Ok(()) => self.stage.answer(),
+            Ok(()) => self.answer(),
             Err(error) => Err(RecoverError::from(error)),
         }
+    }
+
+    /// What the last step answered, unless its call failed: whether calls are left, or why the store can't be recovered.
+    pub fn answer(&self) -> Result<Ahead, RecoverError>
+        ensures answer { result ≡ answer_in (view_of (recovery_stage self.now)) }
+        ensures ahead { IfOk result (λ ahead. IsAheadOf ahead (recovery_stage self.now)) }
+        ensures ends { IfErr result (λ error. is_retried error ≡ false) }
+        ensures differ { (place : ℕ) (kept found : List ℕ) → result ≡ Err (RecoverError.Damaged place kept found) → kept ≢ found }
+    {
+        self.stage.answer()
     }
 
     /// The head of the store.
