@@ -125,7 +125,7 @@ block_kept old new head slot journal home =
     ]
 
 -- a block that isn't sealed is damaged
-node_refused : (nodes slot : ℕ) (block : Standing) → ¬ IsSealed block.page → node_checked nodes slot block ≡ Err (Damaged (2 + slot) (seal_of block.page) (sha256 (sealed_part block.page)))
+pub node_refused : (nodes slot : ℕ) (block : Standing) → ¬ IsSealed block.page → node_checked nodes slot block ≡ Err (Damaged (2 + slot) (seal_of block.page) (sha256 (sealed_part block.page)))
 node_refused nodes slot block unsealed =
     ap (λ (t : Bool). refuse (not t) (Damaged (2 + slot) (seal_of block.page) (sha256 (sealed_part block.page))) (refuse (not (slot_of block.page == slot)) (Unfit block.place Slot) (node_or_refusal block.place (node_read nodes block.page)))) (unsealed_test block.page unsealed)
 
@@ -153,7 +153,7 @@ nodes_kept old new nodes (suc left) was now found end each is =
 -- ---- the map pages
 
 -- a map page that is hurt has another digest
-page_refused : (old new : ℕ → List ℕ) (m : MapPage) (refs : List Ref) → map_checked m (old m.reference.place) ≡ Ok refs → IsHurtRead old new m.reference.place → map_checked m (new m.reference.place) ≡ Err (Damaged m.reference.place m.reference.digest (sha256 (new m.reference.place)))
+pub page_refused : (old new : ℕ → List ℕ) (m : MapPage) (refs : List Ref) → map_checked m (old m.reference.place) ≡ Ok refs → IsHurtRead old new m.reference.place → map_checked m (new m.reference.place) ≡ Err (Damaged m.reference.place m.reference.digest (sha256 (new m.reference.place)))
 page_refused old new m refs is hurt =
     let at : ℕ = m.reference.place in
     let passed = refuse-ok (not (bytes_eq m.reference.digest (sha256 (old at)))) (Damaged at m.reference.digest (sha256 (old at))) (refs_or_refusal at (map_read m.count (old at))) refs is in

@@ -35,6 +35,7 @@ pub mod NamingsEnded
 pub mod OneOfThem
 pub mod PlacesLeft
 pub mod PlacesUsed
+pub mod ReadingsBeside
 pub mod ReadsBeside
 pub mod RecoveryRefusals
 pub mod ReferencesInside

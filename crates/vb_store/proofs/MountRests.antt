@@ -106,7 +106,7 @@ rest-off reads head slots m ms nodes claims refs error checked off =
 
 -- ---- a step that stopped
 
-ended_rest : (reads : ℕ → List ℕ) (after : MountStage) (error : RecoverError) → HasEnded after error → rest_of reads after ≡ Err error
+pub ended_rest : (reads : ℕ → List ℕ) (after : MountStage) (error : RecoverError) → HasEnded after error → rest_of reads after ≡ Err error
 ended_rest reads (ReadHome h) error ended = absurd ended
 ended_rest reads (ReadMap m) error ended = absurd ended
 ended_rest reads (Finish w) error ended = absurd ended

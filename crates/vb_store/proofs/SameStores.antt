@@ -196,7 +196,7 @@ maps_left-nodes reads places (m ∷ ms) known end is =
 -- ---- what is known below a head
 
 -- two heads of one size, and their blocks and map pages
-known_below-same : (old new : ℕ → List ℕ) (head other : Head) (place there : ℕ) (blocks others : ℕ → Standing) (known : Mapped) → HaveSameSize head other → ((slot : ℕ) → slot < head.nodes → (others slot).page ≡ (blocks slot).page) → All (λ map. new map.reference.place ≡ old map.reference.place) (maps_in known.slots) → known_below old head place blocks ≡ Ok known → known_below new other there others ≡ Ok known
+pub known_below-same : (old new : ℕ → List ℕ) (head other : Head) (place there : ℕ) (blocks others : ℕ → Standing) (known : Mapped) → HaveSameSize head other → ((slot : ℕ) → slot < head.nodes → (others slot).page ≡ (blocks slot).page) → All (λ map. new map.reference.place ≡ old map.reference.place) (maps_in known.slots) → known_below old head place blocks ≡ Ok known → known_below new other there others ≡ Ok known
 known_below-same old new head other place there blocks others known size pages maps is =
     let places : ℕ → ℕ = λ slot. (blocks slot).place in
     let theres : ℕ → ℕ = λ slot. (others slot).place in

@@ -21,7 +21,7 @@ use Rattle.vb_journal.proofs.ChoicesOf.{choices-damaged, choices-synced, hurt-ca
 use Rattle.vb_journal.proofs.Keeping.{HasSameCandidates-damaged, IsAtRest-same, IsCommitting-same}
 use Rattle.vb_journal.proofs.TriedCells.{Fixed-stays, Fixed-synced, Has-elsewhere, Has-here, Has-same, Trying-from_Tried, written-elsewhere}
 use Rattle.vb_steps.specs.Calls.{MayFailTo, after, answer_of}
-use Rattle.vb_store.specs.Beside.{HasItsView, HasOneHead, HasReason, IsBeside, IsKnownBeside, IsMendedBeside, WasMendedBeside, WasRead, head_reads}
+use Rattle.vb_store.specs.Beside.{HasItsView, HasOneHead, HasReason, IsBeside, IsKnownBeside, IsMendedBeside, RestsBeside, WasMendedBeside, WasRead, head_reads}
 use Rattle.vb_store.specs.Clear.{first_candidates}
 use Rattle.vb_store.specs.EmptyStores.{whole_cell}
 use Rattle.vb_store.specs.OneOf.{RecoversOneOf, TreeView}
@@ -47,18 +47,18 @@ hurt_kept : (here : Bool) (cell : Cell) (page bytes : List ℕ) → cell.hurt �
 hurt_kept true cell page bytes is = (page, refl)
 hurt_kept false cell page bytes is = (bytes, is)
 
-firsts-kept : (d : DiskState) (place : ℕ) (page : List ℕ) → first_candidates (damaged d place page) ≡ first_candidates d
+pub firsts-kept : (d : DiskState) (place : ℕ) (page : List ℕ) → first_candidates (damaged d place page) ≡ first_candidates d
 firsts-kept d place page =
     let each : (q : ℕ) → first_candidates (damaged d place page) q ≡ first_candidates d q = λ q. first_kept (eqb q place) (d.cells q) page in
     λ i q. each q i
 
-alone-kept : (d : DiskState) (place q : ℕ) (page : List ℕ) → (d.cells q).later ≡ [] → ((damaged d place page).cells q).later ≡ []
+pub alone-kept : (d : DiskState) (place q : ℕ) (page : List ℕ) → (d.cells q).later ≡ [] → ((damaged d place page).cells q).later ≡ []
 alone-kept d place q page alone = later_kept (eqb q place) (d.cells q) page ∙ alone
 
 hurt-stays : (d : DiskState) (place q : ℕ) (page : List ℕ) → IsHurt d q → IsHurt (damaged d place page) q
 hurt-stays d place q page hurt = hurt_kept (eqb q place) (d.cells q) page hurt.0 hurt.1
 
-has-kept : (p : Progress) (d : DiskState) (place q : ℕ) (page : List ℕ) → Has p (d.cells q) → Has p ((damaged d place page).cells q)
+pub has-kept : (p : Progress) (d : DiskState) (place q : ℕ) (page : List ℕ) → Has p (d.cells q) → Has p ((damaged d place page).cells q)
 has-kept p d place q page has = Has-same p (d.cells q) ((damaged d place page).cells q) (hurt-candidates (eqb q place) (d.cells q) page) has
 
 was-kept : (d : DiskState) (place q : ℕ) (page read : List ℕ) → WasRead d q read → WasRead (damaged d place page) q read
@@ -100,13 +100,24 @@ mended-kept head other d place page is = record {
   settled = λ q apart. alone-kept d place q page (is.settled q apart);
 }
 
-reason-kept : (made : Bool) (why : RecoverError) (d : DiskState) (place : ℕ) (page : List ℕ) → HasReason made why d → HasReason made why (damaged d place page)
+pub reason-kept : (made : Bool) (why : RecoverError) (d : DiskState) (place : ℕ) (page : List ℕ) → HasReason made why d → HasReason made why (damaged d place page)
 reason-kept made (NotAStore at) d place page is = (hurt-stays d place 0 page is.0, hurt-stays d place 1 page is.1)
 reason-kept made (Damaged at kept found) d place page is = hurt-stays d place at page is
 reason-kept made (Unfit at why) d place page is = is
 reason-kept made Rebuilding d place page is = is
 reason-kept made DiskFault d place page is = is
 reason-kept made Memory d place page is = is
+
+pub rests-kept : (views : List TreeView) (head : Head) (d : DiskState) (place : ℕ) (page : List ℕ) → RestsBeside views head d → RestsBeside views head (damaged d place page)
+rests-kept views head d place page is = record {
+  is = is.is;
+  closed = is.closed;
+  homes = is.homes;
+  journal = is.journal;
+  rests = IsAtRest-same head is.homes is.journal d (damaged d place page) (HasSameCandidates-damaged (2 + 2 * head.nodes) d place page) is.rests;
+  settled = λ q. alone-kept d place q page (is.settled q);
+  its = its-kept views d head is.homes place page is.its;
+}
 
 known-kept : (views : List TreeView) (made : Bool) (view : RecoverView) (d : DiskState) (place : ℕ) (page : List ℕ) → IsKnownBeside views made view d → IsKnownBeside views made view (damaged d place page)
 unfolding mended-kept
@@ -143,15 +154,7 @@ known-kept views made (AtReplay head epoch images stage) d place page is = recor
   behind = λ q past. alone-kept d place q page (is.behind q past);
   its = its-kept views d (closed_head head epoch) (new_images images is.homes) place page is.its;
 }
-known-kept views made (AtReady head) d place page is = record {
-  is = is.is;
-  closed = is.closed;
-  homes = is.homes;
-  journal = is.journal;
-  rests = IsAtRest-same head is.homes is.journal d (damaged d place page) (HasSameCandidates-damaged (2 + 2 * head.nodes) d place page) is.rests;
-  settled = λ q. alone-kept d place q page (is.settled q);
-  its = its-kept views d head is.homes place page is.its;
-}
+known-kept views made (AtReady head) d place page is = rests-kept views head d place page is
 known-kept views made (AtRefused why) d place page is = reason-kept made why d place page is
 
 pub IsBeside-damaged : (views : List TreeView) (made : Bool) (view : RecoverView) (d : DiskState) (place : ℕ) (page : List ℕ) → IsBeside views made view d → IsBeside views made view (damaged d place page)

@@ -18,5 +18,6 @@ pub mod Recovered
 pub mod RecoveredStores
 pub mod Runs
 pub mod Sameness
+pub mod Settled
 pub mod Surveys
 pub mod Views
