@@ -1,5 +1,5 @@
 -- What is read of a settled disk, a place at a time, leads to the view that it is settled for.
-use Rattle.std.proofs.Common.{◌≡◌, ◌≢◌, ℕ, zero, suc, ◌+◌, ◌-◌, ◌<◌, ◌≤◌, Bool, true, false, cond, eqb, not, ◌==◌, List, [], ◌∷◌, ◌++◌, length, drop, Option, Some, None, Result, Ok, Err, IsOk, refl, sym, ap, subst, ◌∙◌, ◌⊎◌, inl, inr, arith}
+use Rattle.std.proofs.Common.{◌≡◌, ◌≢◌, ℕ, zero, suc, ◌+◌, ◌-◌, ◌*◌, ◌<◌, ◌≤◌, Bool, true, false, cond, eqb, not, ◌==◌, List, [], ◌∷◌, ◌++◌, length, drop, Option, Some, None, Result, Ok, Err, IsOk, refl, sym, ap, subst, ◌∙◌, ◌⊎◌, inl, inr, arith}
 use Rattle.std.specs.List.{All, Contains}
 use Rattle.std.proofs.lemmas.Bool.{cond-true, eq-eqb}
 use Rattle.std.proofs.lemmas.List.Elements.{All-head}
@@ -13,7 +13,7 @@ use Rattle.vb_disk.specs.States.{DiskState, IsDiskState, read_at}
 use Rattle.vb_head.specs.declared.head.Head.{Head}
 use Rattle.vb_head.specs.declared.head.State.{State}
 use Rattle.vb_head.specs.declared.head.State.TheVariants.{Closed}
-use Rattle.vb_head.specs.Heads.{count_of, head_page}
+use Rattle.vb_head.specs.Heads.{IsHead, count_of}
 use Rattle.vb_index.specs.declared.held.Held.{Held}
 use Rattle.vb_index.specs.Indexes.{IndexState}
 use Rattle.vb_inode.specs.declared.node.Node.{Node}
@@ -21,7 +21,8 @@ use Rattle.vb_journal.specs.declared.recover_error.RecoverError.{RecoverError}
 use Rattle.vb_journal.specs.declared.recover_error.RecoverError.TheVariants.{NotAStore, Damaged, Unfit, Rebuilding, DiskFault, Memory}
 use Rattle.vb_journal.specs.Notes.{head_place}
 use Rattle.vb_journal.specs.Outcomes.{IsHurt}
-use Rattle.vb_journal.specs.Progress.{Fixed, Has}
+use Rattle.vb_journal.specs.Progress.{IsAtRest}
+use Rattle.vb_journal.proofs.Keeping.{HasSameCandidates-damaged, IsAtRest-same}
 use Rattle.vb_journal.specs.Recoveries.{choice_of, is_rebuilding, journal_of, journal_place, settled_from, settled_head}
 use Rattle.vb_journal.specs.Shown.{image_over, pages_from}
 use Rattle.vb_nodes.specs.Holdings.{index_from}
@@ -46,9 +47,9 @@ use Rattle.vb_store.proofs.JournalBeside.{RecoversOneOf-rests}
 use Rattle.vb_store.proofs.KnownViews.{RecoversOneOf-rest, all_each}
 use Rattle.vb_store.proofs.MountRests.{ended_rest}
 use Rattle.vb_store.proofs.ReadsBeside.{read-now}
-use Rattle.vb_store.proofs.RestsBeside.{candidates-count, candidates-show}
+use Rattle.vb_store.proofs.RestsBeside.{candidates-count, candidates-show, homes_in, journal_in, rests_at}
 use Rattle.vb_store.proofs.SameStores.{known_below-same}
-use Rattle.vb_store.proofs.StepsBeside.{alone-kept, firsts-kept, has-kept, reason-kept, rests-kept}
+use Rattle.vb_store.proofs.StepsBeside.{alone-kept, firsts-kept, reason-kept, rests-kept}
 
 -- ---- a store at rest is settled for a view
 
@@ -84,9 +85,10 @@ settled-rests views head d disk rests =
       view = its.view;
       listed = its.listed;
       is = record {
+        is = subst IsHead (sym its.head_is) rests.is;
+        closed = ap (λ (h : Head). h.state) its.head_is ∙ rests.closed;
         settled = rests.settled;
-        first = subst (λ (h : Head). Has (Fixed (head_page h)) (d.cells 0)) (sym its.head_is) rests.rests.first;
-        second = subst (λ (h : Head). Has (Fixed (head_page h)) (d.cells 1)) (sym its.head_is) rests.rests.second;
+        rests = subst (λ (h : Head). IsAtRest h (homes_in d) (journal_in d h) d) (sym its.head_is) (rests_at head d (heads-of views head d rests));
         metadata = metadata;
         recovers = ap (recovered_from (first_candidates d)) metadata ∙ ap (recovered_at its.view.metadata.head.epoch) pages;
       };
@@ -94,11 +96,14 @@ settled-rests views head d disk rests =
 
 pub settled-kept : (view : TreeView) (d : DiskState) (place : ℕ) (page : List ℕ) → IsSettled view d → IsSettled view (damaged d place page)
 settled-kept view d place page is =
+    let head : Head = view.metadata.head in
     let same = sym (firsts-kept d place page) in
     record {
+      is = is.is;
+      closed = is.closed;
       settled = λ q. alone-kept d place q page (is.settled q);
-      first = has-kept (Fixed (head_page view.metadata.head)) d place 0 page is.first;
-      second = has-kept (Fixed (head_page view.metadata.head)) d place 1 page is.second;
+      rests = subst (λ (reads : ℕ → List ℕ). IsAtRest head (λ slot. reads (2 + slot)) (λ i. reads (2 + head.nodes + i)) (damaged d place page)) same
+          (IsAtRest-same head (homes_in d) (journal_in d head) d (damaged d place page) (HasSameCandidates-damaged (2 + 2 * head.nodes) d place page) is.rests);
       metadata = subst (λ (reads : ℕ → List ℕ). metadata_of d.size reads ≡ Ok view.metadata) same is.metadata;
       recovers = subst (λ (reads : ℕ → List ℕ). recovered d.size reads ≡ Recovers view.metadata.head.epoch view.tree) same is.recovers;
     }
@@ -207,8 +212,12 @@ home-hurt made view d h after page hurt unsealed takes =
     ap (λ (p : List ℕ). node_checked h.head.nodes slot (record { place = at; page = p })) here ∙ refused in
     elim takes.ends [
       | inl passes ↦ not_ok (node_checked h.head.nodes slot (record { place = at; page = page })) (Damaged place kept found) refused passes
-      | inr ended ↦ inr (ended.0, ended.1, hurt-reason made d place kept found reads (ReadHome h) after ended.0 hurt ended.1 (takes.same reads here)
-          (home-left reads h.head h.place h.slots.items (h.head.nodes - slot) h.nodes (Damaged place kept found) (let left = h.left in omega (arith, left)) read))
+      | inr ended ↦ inr (
+        ended.0,
+        ended.1,
+        hurt-reason made d place kept found reads (ReadHome h) after ended.0 hurt ended.1 (takes.same reads here)
+            (home-left reads h.head h.place h.slots.items (h.head.nodes - slot) h.nodes (Damaged place kept found) (let left = h.left in omega (arith, left)) read),
+      )
     ]
 
 -- a map page that is hurt

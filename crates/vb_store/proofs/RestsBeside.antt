@@ -82,17 +82,16 @@ its-head d m head is counts =
 
 -- ---- a closed head
 
-homes_in : DiskState → ℕ → List ℕ
+abbrev pub homes_in : DiskState → ℕ → List ℕ
 homes_in d slot = first_candidates d (2 + slot)
 
-journal_in : DiskState → Head → ℕ → List ℕ
+abbrev pub journal_in : DiskState → Head → ℕ → List ℕ
 journal_in d head i = first_candidates d (2 + head.nodes + i)
 
 alone_has : (d : DiskState) (place : ℕ) → AreSettled d → Has (Fixed (first_candidates d place)) (d.cells place)
 alone_has d place settled = ap (λ (l : List (List ℕ)). (d.cells place).first ∷ l) (settled place)
 
-rests_at : (head : Head) (d : DiskState) → HasOneHead head d → IsAtRest head (homes_in d) (journal_in d head) d
-unfolding homes_in journal_in
+pub rests_at : (head : Head) (d : DiskState) → HasOneHead head d → IsAtRest head (homes_in d) (journal_in d head) d
 rests_at head d has = record {
   id = has.is.id_length;
   size = has.size;
@@ -144,7 +143,6 @@ finish-found head images is opened are same =
     }
 
 pub replay-known : (views : List TreeView) (made : Bool) (head : Head) (images : List (List ℕ)) (d : DiskState) → IsDiskState d → HasOneHead head d → head.state ≡ Opened (length images) → AreImages head.nodes images → images ≡ journal_of (first_candidates d) head → images_refusal head.nodes (journal_place head) [] images ≡ None → RecoversOneOf views made d → IsReplayedBeside views (head_before head) head.epoch images (Homes 0) d
-unfolding homes_in journal_in
 replay-known views made head images d disk has opened are all accepted recovers =
     let reads : ℕ → List ℕ = first_candidates d in
     let before : Head = head_before head in

@@ -3,10 +3,11 @@ use Rattle.std.specs.Prelude.{◌≡◌, ◌⊎◌, ℕ, ◌+◌, Bool, List, le
 use Rattle.std.specs.List.{Contains}
 use Rattle.vb_disk.specs.States.{DiskState}
 use Rattle.vb_head.specs.declared.head.Head.{Head}
-use Rattle.vb_head.specs.Heads.{head_page}
+use Rattle.vb_head.specs.declared.head.State.TheVariants.{Closed}
+use Rattle.vb_head.specs.Heads.{IsHead}
 use Rattle.vb_journal.specs.declared.recover_error.RecoverError.{RecoverError}
 use Rattle.vb_journal.specs.Interruptions.{AreSettled}
-use Rattle.vb_journal.specs.Progress.{Fixed, Has}
+use Rattle.vb_journal.specs.Progress.{IsAtRest}
 use Rattle.vb_store.specs.declared.mount_stage.MountStage.{MountStage}
 use Rattle.vb_store.specs.declared.mount_stage.MountStage.TheVariants.{ReadHome, ReadMap, Finish, Refused}
 use Rattle.vb_store.specs.Beside.{HasReason, RestsBeside}
@@ -18,12 +19,14 @@ use Rattle.vb_store.specs.Recovered.{Recovers, recovered}
 
 -- ---- settled disks
 
--- a disk is settled for a view: each place has one candidate, that of both heads is the view's head, and the candidates
--- say the view's nodes and references, and recover its epoch and its tree
+-- a disk is settled for a view: each place has one candidate; it is at rest with the view's head, the candidate of both
+-- heads, and with the candidates of its homes and its journal; and the candidates say the view's nodes and references, and
+-- recover its epoch and its tree
 pub record IsSettled (view : TreeView) (d : DiskState) : Type 0 where
+  pub is : IsHead view.metadata.head
+  pub closed : view.metadata.head.state ≡ Closed
   pub settled : AreSettled d
-  pub first : Has (Fixed (head_page view.metadata.head)) (d.cells 0)
-  pub second : Has (Fixed (head_page view.metadata.head)) (d.cells 1)
+  pub rests : IsAtRest view.metadata.head (λ slot. first_candidates d (2 + slot)) (λ i. first_candidates d (2 + view.metadata.head.nodes + i)) d
   pub metadata : metadata_of d.size (first_candidates d) ≡ Ok view.metadata
   pub recovers : recovered d.size (first_candidates d) ≡ Recovers view.metadata.head.epoch view.tree
 

@@ -58,7 +58,7 @@ pub use recovered_stores::{
     each_crash_of_a_mount_leaves_the_metadata, homes_tell_what_the_blocks_told,
 };
 pub use same_stores::{the_same_pages_recover_the_same_tree, the_same_store_has_the_same_metadata};
-pub use settled_stores::a_store_at_rest_is_settled_for_a_view;
+pub use settled_stores::{a_store_at_rest_is_settled_for_a_view, what_is_read_leads_to_a_view};
 pub use view::{Mounted, View};
 
 #[cfg(test)]

@@ -22,7 +22,7 @@ pub fn a_store_at_rest_is_settled_for_a_view()
 
 /// While homes and map pages are read one at a time, each leads to the view that the disk is settled for, whatever is
 /// damaged between the reads: what passes its check is the candidate, and what doesn't is damage of a hurt place.
-pub(crate) fn what_is_read_leads_to_a_view()
+pub fn what_is_read_leads_to_a_view()
     ensures begins { (views : List TreeView) (made : Bool) (d : DiskState) (homes : Homes) → IsDiskState d
         → RestsBeside views homes.head d → homes.nodes ≡ [] → IsReadBeside views made (ReadHome homes) d }
     ensures damage { (views : List TreeView) (made : Bool) (stage : MountStage) (d : DiskState) (place : ℕ) (page : List ℕ)
