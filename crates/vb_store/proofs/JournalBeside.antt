@@ -52,7 +52,7 @@ not_none : {A : Type 0} (e : RecoverError) (o : Option RecoverError) → o ≡ N
 not_none e o none some = absurd (cc (none, some))
 
 -- an image that isn't refused is the candidate
-image-candidate : (d : DiskState) (nodes place : ℕ) (before : List (List ℕ)) (page : List ℕ) → WasRead d place page → image_refusal nodes place before page ≡ None → page ≡ first_candidates d place
+pub image-candidate : (d : DiskState) (nodes place : ℕ) (before : List (List ℕ)) (page : List ℕ) → WasRead d place page → image_refusal nodes place before page ≡ None → page ≡ first_candidates d place
 image-candidate d nodes place before page (inl same) is = same
 image-candidate d nodes place before page (inr was) is = not_none (Damaged place (seal_of page) (sha256 (sealed_part page))) (image_refusal nodes place before page) is (refused_image nodes place before page was.2.unsealed)
 

@@ -33,6 +33,7 @@ pub mod Namings
 pub mod NamingsBegun
 pub mod NamingsEnded
 pub mod OneOfThem
+pub mod PhasesBeside
 pub mod PlacesLeft
 pub mod PlacesUsed
 pub mod ReadingsBeside

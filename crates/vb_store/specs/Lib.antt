@@ -10,6 +10,7 @@ pub mod MountLists
 pub mod MountStages
 pub mod Mounting
 pub mod Mounts
+pub mod MountsBeside
 pub mod Namings
 pub mod NodesRead
 pub mod OneOf

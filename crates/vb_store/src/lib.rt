@@ -23,6 +23,7 @@ mod mount_reading;
 mod mount_reads;
 mod mount_stage;
 mod mount_steps;
+mod mounts_beside;
 mod new_homes;
 mod node_blocks;
 mod one_of;
@@ -51,6 +52,7 @@ pub use known_views::{
 };
 pub use mended_heads::a_mended_head_keeps_what_may_be_recovered;
 pub use mount::Mount;
+pub use mounts_beside::{a_mount_goes_on_beside_damage, a_mount_hands_on_what_it_knows};
 pub use one_of::{
     a_clear_disk_recovers_one_of_its_views, a_view_of_a_disk_stays, what_may_be_recovered_stays,
 };
