@@ -1,26 +1,31 @@
 -- Nodes by slot and the index that holds them: they make the same paths, and what an index holds has no fault.
-use Rattle.std.proofs.Common.{◌≡◌, ℕ, zero, suc, ◌+◌, ◌<◌, ◌≤◌, Bool, true, false, not, cond, ◌||◌, ◌&&◌, ◌==◌, List, [], ◌∷◌, ◌++◌, length, take, get_or, replicate, Option, Some, None, inl, inr, refl, sym, ap, ◌∙◌, subst, arith}
+use Rattle.std.proofs.Common.{◌≡◌, ℕ, zero, suc, ◌+◌, ◌<◌, ◌≤◌, Bool, true, false, not, cond, ◌||◌, ◌&&◌, ◌==◌, ◌^◌, List, [], ◌∷◌, ◌++◌, length, take, get_or, replicate, Option, Some, None, inl, inr, refl, sym, ap, ◌∙◌, subst, arith}
 use Rattle.std.specs.List.{list_any}
 use Rattle.std.specs.Option.{option_map, option_or}
-use Rattle.std.proofs.lemmas.Bool.{and_parts, cases_Bool, false≢true, eqb-true}
+use Rattle.std.proofs.lemmas.Bool.{and_parts, cases_Bool, false≢true, eqb-true, le-leb}
 use Rattle.std.proofs.lemmas.Bool.Decides.{Decides-eqb}
 use Rattle.std.proofs.lemmas.List.{get_or-take, length-append, length-take}
 use Rattle.vb_block.specs.declared.why.Why.{Why}
 use Rattle.vb_block.specs.declared.why.Why.TheVariants.{Root, Parent, Cycle, SameName, Deep}
-use Rattle.vb_tree.specs.Trees.{data_pages_of}
+use Rattle.vb_tree.specs.Trees.{data_pages_of, longest_file, map_pages_of}
 use Rattle.vb_tree.specs.Renames.{is_deep}
 use Rattle.vb_path.specs.Parts.{is_part, IsPart}
 use Rattle.vb_inode.specs.declared.node.Node.{Node}
 use Rattle.vb_inode.specs.declared.node.NodeKind.{NodeKind}
-use Rattle.vb_inode.specs.Nodes.{is_free, may_be_named}
+use Rattle.vb_inode.specs.declared.node.NodeKind.TheVariants.{Free, Folder, File}
+use Rattle.vb_inode.specs.Layout.{AreRefs}
+use Rattle.vb_inode.specs.Reading.{IsNodeOf}
+use Rattle.vb_block.specs.declared.digest.Ref.{Ref}
+use Rattle.vb_inode.specs.Nodes.{is_free, may_be_named, may_have_length, may_have_parent, IsInRange}
 use Rattle.vb_index.specs.declared.held.Held.{Held}
 use Rattle.vb_index.specs.Changes.{blank_ref}
 use Rattle.vb_index.specs.Heights.{parent_in as held_parent, parent_at, path_up as held_up, path_to, IsRooted}
 use Rattle.vb_index.specs.Listings.{name_in, name_at}
-use Rattle.vb_index.specs.Nodes.{child_of, held_at, holds_folder, is_folder_node, same_name, slot_at, IsTable}
+use Rattle.vb_index.specs.Nodes.{child_of, held_at, holds_folder, is_file_node, is_folder_node, same_name, slot_at, IsTable}
 use Rattle.vb_index.proofs.ChildLaws.{same_name-Decides}
 use Rattle.vb_index.proofs.Growth.{slot_holds}
 use Rattle.vb_index.proofs.Places.{child-place}
+use Rattle.vb_index.proofs.Tables.{folder_in, held_in_table}
 use Rattle.vb_index.proofs.Walks.{last_step, snoc-ind}
 use Rattle.vb_nodes.specs.Paths.{ancestor, enough_steps, free_node, leads_to_root, node_at, own_part, parent_in, path_in, path_up}
 use Rattle.vb_nodes.specs.Faults.{fault_below, fault_of_entry, fault_of_slot, has_lower_twin, is_entry, is_root_node, refuse, table_fault, Fault, IsNodeTree}
@@ -239,3 +244,58 @@ below-no_fault nodes fine (suc m) le =
 -- nodes that stand for what an index holds have no fault
 pub held-no_fault : (nodes : List Node) (held : List (Option Held)) → IsTable held → IsRooted held → StandForAll nodes held → table_fault nodes ≡ None
 held-no_fault nodes held table rooted all = below-no_fault nodes (slot-no_fault nodes held table rooted all) (length nodes) (omega arith)
+
+-- ---- nodes of a store
+
+held-used : (kind : NodeKind) → is_file_node kind ≡ not (is_folder_node kind) → is_free kind ≡ false
+held-used Free e = absurd (false≢true e)
+held-used Folder e = refl
+held-used File e = refl
+
+named-held : (slot : ℕ) (kind : NodeKind) (name : List ℕ) → is_free kind ≡ false → (slot ≡ 0 → name ≡ []) → (0 < slot → IsPart name) → may_be_named slot kind name ≡ true
+unfolding may_be_named
+named-held zero kind name used none valid = ap (λ (n : List ℕ). length n == 0) (none refl)
+named-held (suc k) kind name used none valid =
+    ap (λ (b : Bool). cond (b || is_free kind) (length name == 0) (is_part name)) (not_zero (suc k) (omega arith))
+    ∙ ap (λ (b : Bool). cond b (length name == 0) (is_part name)) used
+    ∙ valid (omega arith)
+
+parented-held : (kind : NodeKind) (parent : ℕ) → is_free kind ≡ false → may_have_parent kind parent ≡ true
+parented-held Free parent used = absurd (false≢true (sym used))
+parented-held Folder parent used = refl
+parented-held File parent used = refl
+
+measured-held : (kind : NodeKind) (len : ℕ) → is_free kind ≡ false → (is_folder_node kind ≡ true → len ≡ 0) → len ≤ longest_file → may_have_length kind len ≡ true
+measured-held Free len used none short = absurd (false≢true (sym used))
+measured-held Folder len used none short = (Decides-eqb len 0).1 (none refl)
+measured-held File len used none short = le-leb len longest_file short
+
+-- the fields of a node that an index holds are in range, wherever its map pages lie
+in-range : (held : List (Option Held)) (slot : ℕ) (one : Held) (maps : List Ref) → IsTable held → IsRooted held → held_at held slot ≡ Some one → length maps ≡ map_pages_of one.node.length → IsInRange (record one.node { maps = maps })
+in-range held slot one maps table rooted holds mapped =
+    let fits = table.fits slot one holds in
+    let used = held-used one.node.kind fits.either in
+    record {
+      named = named-held one.node.slot one.node.kind one.node.name used
+          (λ zero. sym (ap name_in holds) ∙ ap (name_at held) (sym fits.at_slot ∙ zero) ∙ rooted.no_name)
+          (λ above. rooted.valid slot one holds (omega (arith, above, fits.at_slot)));
+      parented = parented-held one.node.kind one.node.parent used;
+      measured = measured-held one.node.kind one.node.length used fits.folder_empty fits.short;
+      mapped = mapped;
+    }
+
+-- the parent of a node that an index holds is a slot of it
+parent-in : (held : List (Option Held)) (slot : ℕ) (one : Held) → IsTable held → IsRooted held → held_at held slot ≡ Some one → one.node.parent < length held
+parent-in held zero one table rooted holds = omega (arith, sym (ap held_parent holds) ∙ rooted.own_parent, folder_in held 0 table.root)
+parent-in held (suc k) one table rooted holds = folder_in held one.node.parent (table.in_folder (suc k) one holds (omega arith))
+
+-- a node that stands for what an index holds is one of a store
+pub held-of_store : (nodes : List Node) (held : List (Option Held)) (slot : ℕ) (one : Held) → IsTable held → IsRooted held → StandForAll nodes held → held_at held slot ≡ Some one → length (node_at nodes slot).maps ≡ map_pages_of one.node.length → AreRefs (node_at nodes slot).maps → IsNodeOf (length nodes) (node_at nodes slot)
+held-of_store nodes held slot one table rooted all holds mapped refs =
+    let is = stands nodes held slot one all holds in
+    record {
+      slot = omega (arith, ap (λ (n : Node). n.slot) is, (table.fits slot one holds).at_slot, held_in_table held slot one holds, table.few);
+      parent = omega (arith, ap (λ (n : Node). n.parent) is, all.as_many, parent-in held slot one table rooted holds);
+      in_range = subst IsInRange (sym is) (in-range held slot one (node_at nodes slot).maps table rooted holds mapped);
+      refs = refs;
+    }

@@ -13,7 +13,7 @@ mod names;
 pub use claims::Claims;
 pub use errors::TableError;
 pub use indexing::index_of;
-pub use laws::{indexes_have_no_fault, nodes_are_found_by_path};
+pub use laws::{nodes_are_found_by_path, nodes_of_an_index_are_a_tree};
 pub use vb_block::Why;
 pub use vb_index::{Index, Limits};
 pub use vb_inode::Node;

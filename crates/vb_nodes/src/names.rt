@@ -1,9 +1,7 @@
 // The names that are taken in each folder.
-ghost use Rattle.std.specs.Prelude.{◌≡◌, ◌<◌, ◌||◌, ◌&&◌, ◌==◌, not, false, ℕ, List, vec_len, get_or, IfOk, OnOk};
-ghost use Rattle.std.specs.Ordering.{nat_cmp};
-ghost use Rattle.std.specs.Cmp.Lexicographic.{slice_cmp};
+ghost use Rattle.std.specs.Prelude.{◌≡◌, ◌<◌, not, false, ℕ, List, vec_len, IfOk, OnOk};
 ghost use Rattle.std.specs.BTreeSet as sorted;
-ghost use Rattle.vb_index.specs.Nodes.{same_name};
+ghost use Rattle.vb_nodes.specs.Naming.{is_taken, AddsName};
 
 use std::alloc::{AllocError, Global};
 use std::collections::BTreeSet;
@@ -16,7 +14,7 @@ pub(crate) type Names = BTreeSet<Bytes>;
 pub(crate) fn no_names(alloc: Global, folders: usize) -> Result<Vec<Names>, AllocError>
     ensures len { IfOk result (λ names. vec_len names ≡ folders) }
     ensures empty { (folder : ℕ) (name : List ℕ) (d : sorted.BTreeSet (List ℕ)) → folder < folders
-        → IfOk result (λ names. sorted.contains (slice_cmp nat_cmp) (get_or names.items folder d) name ≡ false) }
+        → IfOk result (λ names. is_taken names folder name d ≡ false) }
 {
     let mut names = Vec::new(alloc);
     for _folder in 0..folders {
@@ -33,8 +31,9 @@ pub(crate) fn take_name(
     name: &Bytes,
 ) -> Result<bool, AllocError>
     requires { folder < vec_len names.old }
-    ensures answer { (d : sorted.BTreeSet (List ℕ)) → IfOk result (λ taken. taken ≡ sorted.contains (slice_cmp nat_cmp) (get_or names.old.items folder d) name.now) }
-    ensures ok { (other : ℕ) (key : List ℕ) (d : sorted.BTreeSet (List ℕ)) → other < vec_len names.old → OnOk result (sorted.contains (slice_cmp nat_cmp) (get_or names.new.items other d) key ≡ ((folder == other && same_name name.now key) || sorted.contains (slice_cmp nat_cmp) (get_or names.old.items other d) key)) }
+    ensures answer { (d : sorted.BTreeSet (List ℕ))
+        → IfOk result (λ taken. taken ≡ is_taken names.old folder name.now d) }
+    ensures ok { OnOk result (AddsName names.old names.new folder name.now) }
     ensures len { vec_len names.new ≡ vec_len names.old }
 {
     let is_new = names[folder as usize].insert(Bytes::of(alloc, name.slice())?)?;
