@@ -24,10 +24,10 @@ use Rattle.vb_inode.specs.Checks.{are_zeros, checked}
 use Rattle.vb_inode.specs.Reading.{map_read, node_by, node_from, node_read, Answers, AnswersBy, AreRefsIn, Holds, IsMadeOf, IsNodeOf, IsNodeRead}
 use Rattle.vb_block.proofs.Numbers.{length-four_bytes, length-eight_bytes}
 use Rattle.vb_inode.proofs.Zeros.{take-padded}
-use Rattle.vb_inode.proofs.RefBytes.{map_page-zeros, ref_same}
+use Rattle.vb_inode.proofs.RefBytes.{map_page-zeros, map_page_same, ref_same}
 use Rattle.vb_inode.proofs.FieldBytes.{after_1, after_2, after_3, after_4, after_5, after_6, after_7, after_8, fields_same, sealed_bytes-parts}
 use Rattle.vb_inode.proofs.Checked.{checked-Passes}
-use Rattle.vb_inode.proofs.Decoded.{nodes_same, Holds-node_page, Passes-fields_from}
+use Rattle.vb_inode.proofs.Decoded.{node_page_same, nodes_same, Holds-node_page, Passes-fields_from}
 
 -- ---- the fields that stand in a page
 
@@ -182,3 +182,5 @@ unfolding map_page
 map_page_read refs are =
     map_read-zeros (length refs) (map_page refs) (map_page-zeros (length refs) (map_page refs) refs refl are refl)
     ∙ ap Ok (refs_in-bytes refs (replicate (4096 - length (flat_map ref_bytes refs)) 0) are)
+
+pub ruleset pages_read = (node_page_same, map_page_same, node_page_read, map_page_read)

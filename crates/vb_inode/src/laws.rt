@@ -7,7 +7,7 @@ ghost use Rattle.vb_inode.specs.Reading.{map_read, node_read, IsNodeOf};
 
 /// What was written is what is read; so no two nodes have one block, and no two lists of as many
 /// references one map page. It does nothing.
-#[tactic(auto, using(crate::proofs::Decoded::node_page_same, crate::proofs::RefBytes::map_page_same, crate::proofs::PagesRead::node_page_read, crate::proofs::PagesRead::map_page_read))]
+#[tactic(auto, using(crate::proofs::PagesRead::pages_read))]
 pub fn blocks_tell_what_was_written()
     ensures nodes { (nodes : ℕ) (a b : Node) → nodes ≤ 2 ^ 32 → IsNodeOf nodes a → IsNodeOf nodes b
         → node_page a ≡ node_page b → a ≡ b }
