@@ -1,0 +1,4 @@
+pub mod Built
+pub mod Places
+pub mod Sourced
+pub mod Trees

@@ -1,0 +1,12 @@
+// The frozen view: the entries of a tree in path order, their pages in memory, and the next view that a commit makes.
+#![tactic(auto)]
+
+mod entry;
+mod frozen;
+mod order;
+mod reading;
+mod sources;
+
+pub use entry::FrozenEntry;
+pub use frozen::Frozen;
+pub use order::Order;
