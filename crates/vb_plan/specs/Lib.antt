@@ -1,0 +1,6 @@
+pub mod Sources
+pub mod Maps
+pub mod Plans
+pub mod Conditions
+pub mod Seen
+pub mod Shown
