@@ -1,0 +1,4 @@
+pub mod Messages
+pub mod Replays
+pub mod Playing
+pub mod Feeds
