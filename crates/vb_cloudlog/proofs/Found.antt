@@ -21,10 +21,11 @@ use Rattle.vb_msg.specs.declared.ranges.EntryPath.{EntryPath}
 use Rattle.vb_msg.specs.declared.ranges.Epoch.{Epoch}
 use Rattle.vb_msg.specs.declared.ranges.PartBytes.{PartBytes}
 use Rattle.vb_msg.specs.Bodies.{kind_from}
-use Rattle.vb_msg.specs.Frames.{body_of, covered, eight_bytes, four_bytes, frame, number_in, number_of, number_of_kind, path_bytes, two_bytes}
+use Rattle.vb_block.specs.Numbers.{eight_bytes, four_bytes, two_bytes}
+use Rattle.vb_msg.specs.Frames.{body_of, covered, frame, number_in, number_of, number_of_kind, path_bytes}
 use Rattle.vb_msg.specs.Ranges.{are_zeros}
 use Rattle.vb_msg.proofs.MessagesSame.{entries_same, messages_same}
-use Rattle.vb_msg.proofs.Numbers.{length-four_bytes, length-two_bytes}
+use Rattle.vb_block.proofs.Numbers.{length-four_bytes, length-two_bytes}
 use Rattle.vb_msg.proofs.PathTexts.{text-short}
 use Rattle.vb_msg.proofs.WholeFrames.{length-frame, number_in-frame}
 use Rattle.vb_cloudlog.specs.Messages.{where_true, where_false, epoch_in, id_in, part_in, entry_read, entry_in, after_entry, message_of, where_framed, message_in}

@@ -7,7 +7,7 @@ use Rattle.vb_msg.specs.declared.frame_error.FrameError.TheVariants.{BadFrame, S
 use Rattle.vb_msg.specs.declared.message.Msg.{Msg}
 use Rattle.vb_msg.specs.Frames.{body_length, body_of, frame, front_of, has_length, number_in, DecodesTo}
 use Rattle.vb_msg.proofs.FrameFronts.{IsWholeFront, front-cut, front-four, front-kind, front-long, front-none, front-whole, whole-front}
-use Rattle.vb_msg.proofs.Numbers.{body_length-take}
+use Rattle.vb_msg.proofs.BodyLengths.{body_length-take}
 use Rattle.vb_msg.proofs.WholeFrames.{front-frame, length-frame}
 use Rattle.vb_cloudlog.specs.Messages.{Opening, Whole, Partial, Wrong, message_in, opening_with, opening_by, opening_of}
 use Rattle.vb_cloudlog.proofs.Found.{message_in-frame, message_in-is}
