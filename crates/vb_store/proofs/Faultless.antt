@@ -9,20 +9,11 @@ use Rattle.vb_steps.specs.Steps.{CallsOnce}
 use Rattle.vb_store.specs.MountStages.{IsNoFault}
 
 -- no fault needs no cause
-pub no_cause : (r : Result (Unit {0}) RecoverError) (before after : ℕ) → before ≤ after → IfErr r IsNoFault → HasCause DiskFault before after r
-no_cause (Ok done) before after kept none = record { kept = kept; failed = λ is. absurd (cc is) }
-no_cause (Err error) before after kept none = record { kept = kept; failed = λ is. (let same : error ≡ DiskFault = cc is in absurd (subst IsNoFault same none)) }
+pub no_cause_of : {T : Type 0} (r : Result T RecoverError) (before after : ℕ) → before ≤ after → IfErr r IsNoFault → HasCause DiskFault before after r
+no_cause_of (Ok done) before after kept none = record { kept = kept; failed = λ is. absurd (cc is) }
+no_cause_of (Err error) before after kept none = record { kept = kept; failed = λ is. (let same : error ≡ DiskFault = cc is in absurd (subst IsNoFault same none)) }
 
 -- no fault uses no failure
-pub no_use : {T : Type 0} (read : Result T DiskError) (r : Result (Unit {0}) RecoverError) (before after : Option ℕ) → UsesFailures Failed before after read → IfErr r IsNoFault → UsesFailures DiskFault before after r
-no_use read (Ok done) before after uses none = record { told = uses.told; kept = uses.kept; used = λ some is. absurd (cc is) }
-no_use read (Err error) before after uses none = record { told = uses.told; kept = uses.kept; used = λ some is. (let same : error ≡ DiskFault = cc is in absurd (subst IsNoFault same none)) }
-
--- a call was made, whatever comes of what it gave
-pub made_once : {T : Type 0} (read : Result T DiskError) (r : Result (Unit {0}) RecoverError) (before after : ℕ) → CallsOnce NoMemory true before after read → IsOk read → CallsOnce Memory true before after r
-made_once (Ok x) r before after called ok =
-    let once = called.once refl (λ is. absurd (cc is)) in
-    record { none = λ is. absurd (cc is); once = λ due other. once; at_most = λ is. inr once }
-made_once (Err e) r before after called ok = absurd (cc ok)
-
-pub ruleset causes = (no_cause, no_use, made_once)
+pub no_use_of : {S T : Type 0} (read : Result S DiskError) (r : Result T RecoverError) (before after : Option ℕ) → UsesFailures Failed before after read → IfErr r IsNoFault → UsesFailures DiskFault before after r
+no_use_of read (Ok done) before after uses none = record { told = uses.told; kept = uses.kept; used = λ some is. absurd (cc is) }
+no_use_of read (Err error) before after uses none = record { told = uses.told; kept = uses.kept; used = λ some is. (let same : error ≡ DiskFault = cc is in absurd (subst IsNoFault same none)) }

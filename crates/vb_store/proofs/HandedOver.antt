@@ -25,12 +25,14 @@ use Rattle.vb_journal.proofs.JournalReads.{length-pages_from}
 use Rattle.vb_store.specs.declared.mount_parts.Homes.{Homes}
 use Rattle.vb_store.specs.declared.mount_parts.Whole.{Whole}
 use Rattle.vb_store.specs.declared.mount_phase.MountPhase.{MountPhase}
+use Rattle.vb_store.specs.declared.mount_phase.ReadyView.{ReadyView}
 use Rattle.vb_store.specs.declared.mount_phase.MountPhase.TheVariants.{Recovering, Reading, Ready}
 use Rattle.vb_store.specs.declared.mount_stage.MountStage.{MountStage}
 use Rattle.vb_store.specs.declared.mount_stage.MountStage.TheVariants.{ReadHome, ReadMap, Finish, Refused}
 use Rattle.vb_store.specs.Clear.{IsClear}
 use Rattle.vb_store.specs.Metadata.{Metadata, images_fault, journal_fault}
 use Rattle.vb_store.specs.MountLists.{places_due, places_of_homes}
+use Rattle.vb_store.specs.MountMoves.{AreLikeHomes, IsStageLike}
 use Rattle.vb_store.specs.Mounts.{AreSoundTo, EachCrashLeaves, IsMounted, IsMounting, IsReading, Leaves, MountsTo, WasRecoveredAt, place_reads, store_places_by, store_reads}
 use Rattle.vb_store.specs.MountStages.{rest_of_homes, rest_on}
 use Rattle.vb_store.specs.Readings.{Closes, IsClosed, IsLikeWhole, ReadsOn}
@@ -225,7 +227,7 @@ now_mounted w view begun d head index is =
 closed_known : (w : Whole) (phase : MountPhase) (result : Result Ahead RecoverError) (begun d : DiskState) → IsClosed w phase result → IsReading (Finish w) begun d → IsMounting phase begun d
 closed_known w (Recovering j) result begun d closed is = absurd closed
 closed_known w (Reading stage) result begun d closed is = like_reading w stage begun d closed.0 is
-closed_known w (Ready view) result begun d closed is = now_mounted w view begun d closed.0 closed.1 is
+closed_known w (Ready ready) result begun d closed is = now_mounted w ready.view begun d closed.0 closed.1 is
 
 pub known-read : (after : MountStage) (answer : Result (Unit {0}) RecoverError) (phase : MountPhase) (result : Result Ahead RecoverError) (begun d : DiskState) → Closes after answer phase result → IsReading after begun d → IsMounting phase begun d
 known-read (ReadHome h) (Ok done) phase result begun d closes is = subst (λ (p : MountPhase). IsMounting p begun d) (sym closes.0) is
@@ -259,11 +261,42 @@ reading-mounts stage after answer phase result begun d new told is rest reads cl
 }
 
 -- a step of a mount at its end
-pub ready-mounts : (view : ViewState) (begun d : DiskState) (new : Option DiskState) → new ≡ Some d → IsMounted view begun d → MountsTo begun (Ready view) (Ready view) d new
-ready-mounts view begun d new told is = record {
+pub ready-mounts : (ready : ReadyView) (begun d : DiskState) (new : Option DiskState) → new ≡ Some d → IsMounted ready.view begun d → MountsTo begun (Ready ready) (Ready ready) d new
+ready-mounts ready begun d new told is = record {
   next = d;
   told = told;
   known = is;
-  crashes = EachMoment-none (EachCrashLeaves (Ready view) begun) d (λ left crash. leaves-recovered begun d left view.head is.recovered crash);
-  clear = λ clear. EachMoment-none IsClear d (clear-recovered begun d view.head is.is clear is.recovered);
+  crashes = EachMoment-none (EachCrashLeaves (Ready ready) begun) d (λ left crash. leaves-recovered begun d left ready.view.head is.recovered crash);
+  clear = λ clear. EachMoment-none IsClear d (clear-recovered begun d ready.view.head is.is clear is.recovered);
+}
+
+-- what is known of a stage is known of a like one
+like_homes : (h k : Homes) (begun d : DiskState) → AreLikeHomes h k → IsReading (ReadHome h) begun d → IsReading (ReadHome k) begun d
+like_homes h k begun d like is = record {
+  is = is.is;
+  recovered = is.recovered;
+  rest = is.rest
+      ∙ ap (λ (x : Head). rest_of_homes (reads_of d) x h.place h.slots.items (x.nodes - length h.nodes) h.nodes) (sym like.head_is)
+      ∙ ap (λ (p : ℕ). rest_of_homes (reads_of d) k.head p h.slots.items (k.head.nodes - length h.nodes) h.nodes) (sym like.place_is)
+      ∙ ap (λ (l : List ℕ). rest_of_homes (reads_of d) k.head k.place l (k.head.nodes - length h.nodes) h.nodes) (sym like.slots_are)
+      ∙ ap (λ (l : List Node). rest_of_homes (reads_of d) k.head k.place k.slots.items (k.head.nodes - length l) l) (sym like.nodes_are);
+}
+
+pub like-stage : (stage after : MountStage) (begun d : DiskState) → IsStageLike stage after → IsReading stage begun d → IsReading after begun d
+like-stage (ReadHome h) (ReadHome k) begun d like is = like_homes h k begun d like is
+like-stage (ReadHome h) (ReadMap m) begun d like is = absurd like
+like-stage (ReadHome h) (Finish w) begun d like is = absurd like
+like-stage (ReadHome h) (Refused r) begun d like is = absurd like
+like-stage (ReadMap m) after begun d like is = subst (λ (s : MountStage). IsReading s begun d) (sym like) is
+like-stage (Finish w) after begun d like is = subst (λ (s : MountStage). IsReading s begun d) (sym like) is
+like-stage (Refused r) after begun d like is = subst (λ (s : MountStage). IsReading s begun d) (sym like) is
+
+-- a read that failed leaves all
+pub stage-mounts : (stage after : MountStage) (begun d : DiskState) (new : Option DiskState) → new ≡ Some d → IsStageLike stage after → IsReading stage begun d → MountsTo begun (Reading stage) (Reading after) d new
+stage-mounts stage after begun d new told like is = record {
+  next = d;
+  told = told;
+  known = like-stage stage after begun d like is;
+  crashes = EachMoment-none (EachCrashLeaves (Reading stage) begun) d (λ left crash. reading_leaves stage begun d left is crash);
+  clear = λ clear. EachMoment-none IsClear d (reading_clear stage begun d is clear);
 }

@@ -56,3 +56,6 @@ pub mod TakenHeads
 pub mod TakenRecoveries
 pub mod TreesKept
 pub mod ViewsOfClear
+pub mod StagesKept
+pub mod MountsMade
+pub mod MountsKept

@@ -20,13 +20,13 @@ ended_answer (Reading (ReadHome h)) begun next e known ended = absurd ended
 ended_answer (Reading (ReadMap m)) begun next e known ended = absurd ended
 ended_answer (Reading (Finish w)) begun next e known ended = absurd ended
 ended_answer (Reading (Refused r)) begun next e known ended = known.rest ∙ ap (λ (x : RecoverError). let y : Result Metadata RecoverError = Err x in y) ended
-ended_answer (Ready view) begun next e known ended = absurd ended
+ended_answer (Ready ready) begun next e known ended = absurd ended
 
 -- one that is at its end shows the metadata
 ready_answer : (phase : MountPhase) (begun next : DiskState) → IsMounting phase begun next → IsSome (ready_view phase) → ShowsMetadata phase begun
 ready_answer (Recovering j) begun next known some = absurd (cc some)
 ready_answer (Reading stage) begun next known some = absurd (cc some)
-ready_answer (Ready view) begun next known some = record { view = view; ready = refl; metadata = known.metadata }
+ready_answer (Ready ready) begun next known some = record { view = ready.view; ready = refl; metadata = known.metadata }
 
 pub mount-answers : (old phase : MountPhase) (begun next : DiskState) (result : Result Ahead RecoverError) → IsMounting phase begun next → IfOk result (λ a. IsAheadOfMount a phase) → IfErr result (MountStandsAfter old phase) → AnswersMount begun phase result
 mount-answers old phase begun next (Ok More) known ahead stands = tt

@@ -30,37 +30,12 @@ reading-calls (ReadMap m) old new result same = same
 reading-calls (Finish w) old new result same = same
 reading-calls (Refused r) old new result same = same
 
--- ---- what is left
-
--- a result that is Ok and one that is an error
-ok_err : {A : Type 0} {T E : Type 0} (r : Result T E) (x : T) (e : E) → r ≡ Ok x → r ≡ Err e → A
-ok_err r x e ok err = (let both : Ok x ≡ Err e = sym ok ∙ err in absurd (cc both))
-
 -- no refusal follows a read
 no_refusal : {A : Type 0} (stage : MountStage) (after : MountStage) → ((place : ℕ) → ComesAfter place after → A) → FollowsRead stage after → A
 no_refusal (ReadHome h) after use_it follows = use_it (2 + length h.nodes) follows
 no_refusal (ReadMap m) after use_it follows = use_it m.map.reference.place follows
 no_refusal (Finish w) after use_it follows = use_it w.place follows
 no_refusal (Refused r) after use_it follows = absurd follows
-
-ahead-is : (phase at : MountPhase) (result : Result Ahead RecoverError) (x : Ahead) → phase ≡ at → result ≡ Ok x → IsAheadOfMount x at → IfOk result (λ a. IsAheadOfMount a phase)
-ahead-is phase at result x is ok holds =
-    subst (λ (r : Result Ahead RecoverError). IfOk r (λ a. IsAheadOfMount a phase)) (sym ok) (subst (IsAheadOfMount x) (sym is) holds)
-
-err-ahead : (phase : MountPhase) (result : Result Ahead RecoverError) (e : RecoverError) → result ≡ Err e → IfOk result (λ a. IsAheadOfMount a phase)
-err-ahead phase result e err = subst (λ (r : Result Ahead RecoverError). IfOk r (λ a. IsAheadOfMount a phase)) (sym err) tt
-
-closed-ahead : (w : Whole) (phase : MountPhase) (result : Result Ahead RecoverError) → IsClosed w phase result → IfOk result (λ a. IsAheadOfMount a phase)
-closed-ahead w (Recovering j) result is = absurd is
-closed-ahead w (Reading stage) result is = err-ahead (Reading stage) result Memory is.1
-closed-ahead w (Ready view) result is = ahead-is (Ready view) (Ready view) result AllDone refl is.2 refl
-
-pub reading-ahead : (stage after : MountStage) (answer : Result (Unit {0}) RecoverError) (phase : MountPhase) (result : Result Ahead RecoverError) → Closes after answer phase result → OnOk answer (FollowsRead stage after) → IfOk result (λ a. IsAheadOfMount a phase)
-reading-ahead stage (ReadHome h) (Ok done) phase result is follows = ahead-is phase (Reading (ReadHome h)) result More is.0 is.1 refl
-reading-ahead stage (ReadMap m) (Ok done) phase result is follows = ahead-is phase (Reading (ReadMap m)) result More is.0 is.1 refl
-reading-ahead stage (Finish w) (Ok done) phase result is follows = closed-ahead w phase result is
-reading-ahead stage (Refused r) (Ok done) phase result is follows = no_refusal stage (Refused r) (λ place none. absurd none) follows
-reading-ahead stage after (Err e) phase result is follows = err-ahead phase result e is.1
 
 -- ---- errors
 
@@ -93,102 +68,14 @@ due-again stage (Refused r) w like follows = absurd like
 closed-error : (stage : MountStage) (w : Whole) (phase : MountPhase) (result : Result Ahead RecoverError) → IsClosed w phase result → FollowsRead stage (Finish w) → IfErr result (MountStandsAfter (Reading stage) phase)
 closed-error stage w (Recovering j) result is follows = absurd is
 closed-error stage w (Reading after) result is follows = error-at stage (Reading after) (Reading after) result Memory refl is.1 (due-again stage after w is.0 follows)
-closed-error stage w (Ready view) result is follows = ok-error stage (Ready view) result AllDone is.2
+closed-error stage w (Ready ready) result is follows = ok-error stage (Ready ready) result AllDone is.2
 
 pub reading-error : (stage after : MountStage) (answer : Result (Unit {0}) RecoverError) (phase : MountPhase) (result : Result Ahead RecoverError) → Closes after answer phase result → OnOk answer (FollowsRead stage after) → IfErr answer (StandsAfter stage after) → IfErr result (MountStandsAfter (Reading stage) phase)
 reading-error stage (ReadHome h) (Ok done) phase result is follows stands = ok-error stage phase result More is.1
 reading-error stage (ReadMap m) (Ok done) phase result is follows stands = ok-error stage phase result More is.1
 reading-error stage (Finish w) (Ok done) phase result is follows stands = closed-error stage w phase result is follows
-reading-error stage (Refused r) (Ok done) phase result is follows stands = ok-error stage phase result More is.1
+reading-error stage (Refused r) (Ok done) phase result is follows stands = no_refusal stage (Refused r) (λ place none. absurd none) follows
 reading-error stage after (Err e) phase result is follows stands = error-at stage phase (Reading after) result e is.0 is.1 (stands-reading stage after e stands)
-
--- an error is that of the read, or there was no memory for the view
-closed_memory : (w : Whole) (phase : MountPhase) (result : Result Ahead RecoverError) (e : RecoverError) → IsClosed w phase result → result ≡ Err e → e ≡ Memory
-closed_memory w (Recovering j) result e is err = absurd is
-closed_memory w (Reading stage) result e is err = let both : (let r : Result Ahead RecoverError = Err Memory in r ≡ Err e) = sym is.1 ∙ err in sym (cc both)
-closed_memory w (Ready view) result e is err = ok_err result AllDone e is.2 err
-
-pub reading-errs : (after : MountStage) (answer : Result (Unit {0}) RecoverError) (phase : MountPhase) (result : Result Ahead RecoverError) (e : RecoverError) → Closes after answer phase result → result ≡ Err e → (answer ≡ Err e) ⊎ (e ≡ Memory)
-reading-errs (ReadHome h) (Ok done) phase result e is err = ok_err result More e is.1 err
-reading-errs (ReadMap m) (Ok done) phase result e is err = ok_err result More e is.1 err
-reading-errs (Finish w) (Ok done) phase result e is err = inr (closed_memory w phase result e is err)
-reading-errs (Refused r) (Ok done) phase result e is err = ok_err result More e is.1 err
-reading-errs after (Err a) phase result e is err = let both : (let r : Result Ahead RecoverError = Err a in r ≡ Err e) = sym is.1 ∙ err in inl (ap (λ (x : RecoverError). let r : Result (Unit {0}) RecoverError = Err x in r) (cc both))
-
--- a fault has its cause
-pub reading-cause : (after : MountStage) (answer : Result (Unit {0}) RecoverError) (phase : MountPhase) (result : Result Ahead RecoverError) (before then : ℕ) → Closes after answer phase result → HasCause DiskFault before then answer → HasCause DiskFault before then result
-reading-cause after answer phase result before then is cause = record {
-  kept = cause.kept;
-  failed = λ err. elim (reading-errs after answer phase result DiskFault is err) [
-    | inl same ↦ cause.failed same
-    | inr memory ↦ absurd (cc memory)
-  ];
-}
-
--- and uses a failure
-pub reading-left : (after : MountStage) (answer : Result (Unit {0}) RecoverError) (phase : MountPhase) (result : Result Ahead RecoverError) (before then : Option ℕ) → Closes after answer phase result → UsesFailures DiskFault before then answer → UsesFailures DiskFault before then result
-reading-left after answer phase result before then is uses = record {
-  told = uses.told;
-  kept = uses.kept;
-  used = λ some err. elim (reading-errs after answer phase result DiskFault is err) [
-    | inl same ↦ uses.used some same
-    | inr memory ↦ absurd (cc memory)
-  ];
-}
-
-reading-again-at : (after : MountStage) (a : RecoverError) (phase : MountPhase) (result : Result Ahead RecoverError) → (phase ≡ Reading after) × (result ≡ Err a) → (let r : Result (Unit {0}) RecoverError = Err a in r ≡ Err Memory) → result ≡ Err Memory
-reading-again-at after a phase result is err = is.1 ∙ (let same : a ≡ Memory = cc err in ap (λ (x : RecoverError). Err x) same)
-
-once_ok : (due : Bool) (done : Unit {0}) (before then : ℕ) → CallsOnce Memory due before then (Ok done) → (then ≡ before) ⊎ (then ≡ counted before)
-once_ok true done before then called = inr (called.once refl (λ is. absurd (cc is)))
-once_ok false done before then called = inl (called.none refl)
-
--- the read was the only call
-pub reading-called : (after : MountStage) (answer : Result (Unit {0}) RecoverError) (phase : MountPhase) (result : Result Ahead RecoverError) (due : Bool) (before then : ℕ) → Closes after answer phase result → CallsOnce Memory due before then answer → CallsOnce Memory due before then result
-reading-called after (Ok done) phase result due before then is called = record {
-  none = called.none;
-  once = λ some other. called.once some (λ err. absurd (cc err));
-  at_most = λ err. once_ok due done before then called;
-}
-reading-called after (Err a) phase result due before then is called = record {
-  none = called.none;
-  once = λ some other. called.once some (λ err. other (reading-again-at after a phase result is err));
-  at_most = λ err. called.at_most (
-      let both : (let r : Result Ahead RecoverError = Err a in r ≡ Err Memory) = sym is.1 ∙ err in
-      ap (λ (x : RecoverError). let r : Result (Unit {0}) RecoverError = Err x in r) (cc both));
-}
-
--- damage has two digests that differ
-pub reading-differ : (after : MountStage) (answer : Result (Unit {0}) RecoverError) (phase : MountPhase) (result : Result Ahead RecoverError) (place : ℕ) (kept found : List ℕ) → Closes after answer phase result → (answer ≡ Err (Damaged place kept found) → kept ≢ found) → result ≡ Err (Damaged place kept found) → kept ≢ found
-reading-differ after answer phase result place kept found is differ err = elim (reading-errs after answer phase result (Damaged place kept found) is err) [
-  | inl same ↦ differ same
-  | inr memory ↦ absurd (cc memory)
-]
-
--- the same refusal comes again
-pub reading-again : (after : MountStage) (answer : Result (Unit {0}) RecoverError) (phase : MountPhase) (result : Result Ahead RecoverError) (e : RecoverError) → Closes after answer phase result → answer ≡ Err e → result ≡ Err e
-reading-again after (Ok done) phase result e is err = absurd (cc err)
-reading-again after (Err a) phase result e is err = is.1 ∙ (let same : a ≡ e = cc err in ap (λ (x : RecoverError). Err x) same)
-
--- ---- the size
-
-like-blocks : (w : Whole) (after : MountStage) (seen : ℕ) → IsLikeWhole w after → w.head.blocks ≤ seen → blocks_of after ≤ seen
-like-blocks w (ReadHome h) seen like fits = absurd like
-like-blocks w (ReadMap m) seen like fits = absurd like
-like-blocks w (Finish v) seen like fits = let same : v.head.blocks ≡ w.head.blocks = ap (λ (h : Head). h.blocks) like.0 in omega (arith, same, fits)
-like-blocks w (Refused r) seen like fits = absurd like
-
-closed-blocks : (w : Whole) (phase : MountPhase) (result : Result Ahead RecoverError) (seen : ℕ) → IsClosed w phase result → w.head.blocks ≤ seen → blocks_of_mount phase ≤ seen
-closed-blocks w (Recovering j) result seen is fits = absurd is
-closed-blocks w (Reading stage) result seen is fits = like-blocks w stage seen is.0 fits
-closed-blocks w (Ready view) result seen is fits = omega arith
-
-pub reading-blocks : (after : MountStage) (answer : Result (Unit {0}) RecoverError) (phase : MountPhase) (result : Result Ahead RecoverError) (seen : ℕ) → Closes after answer phase result → blocks_of after ≤ seen → blocks_of_mount phase ≤ seen
-reading-blocks (ReadHome h) (Ok done) phase result seen is fits = subst (λ (p : MountPhase). blocks_of_mount p ≤ seen) (sym is.0) fits
-reading-blocks (ReadMap m) (Ok done) phase result seen is fits = subst (λ (p : MountPhase). blocks_of_mount p ≤ seen) (sym is.0) fits
-reading-blocks (Finish w) (Ok done) phase result seen is fits = closed-blocks w phase result seen is fits
-reading-blocks (Refused r) (Ok done) phase result seen is fits = subst (λ (p : MountPhase). blocks_of_mount p ≤ seen) (sym is.0) fits
-reading-blocks after (Err e) phase result seen is fits = subst (λ (p : MountPhase). blocks_of_mount p ≤ seen) (sym is.0) fits
 
 -- ---- the list
 
@@ -224,8 +111,8 @@ closed-next begun d place old w (Recovering j) result last at is = absurd is
 closed-next begun d place old w (Reading after) result last at is =
     next-at (Some (ReadPlace place)) (place_reads old) begun d (Reading after) (Reading after) result (Err Memory) refl is.1
     (ap place_reads (like-places d w after is.0 ∙ ap (λ (p : ℕ). p ∷ []) at ∙ sym last))
-closed-next begun d place old w (Ready view) result last at is =
-    next-at (Some (ReadPlace place)) (place_reads old) begun d (Ready view) (Ready view) result (Ok AllDone) refl is.2 (ap place_reads last)
+closed-next begun d place old w (Ready ready) result last at is =
+    next-at (Some (ReadPlace place)) (place_reads old) begun d (Ready ready) (Ready ready) result (Ok AllDone) refl is.2 (ap place_reads last)
 
 next-of : (begun d : DiskState) (place : ℕ) (stage after : MountStage) (answer : Result (Unit {0}) RecoverError) (phase : MountPhase) (result : Result Ahead RecoverError) → Closes after answer phase result → OnOk answer (ComesAfter place after) → ReadsFirst (reads_of_disk d) place stage after answer
     → MakesNext (Some (ReadPlace place)) (place_reads (places_due (reads_of_disk d) stage)) (mount_calls_left phase begun d) result

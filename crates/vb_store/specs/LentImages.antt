@@ -26,13 +26,4 @@ lent_fault r = fault_of_image (lent_image r) (nodes_of (recovery_stage r)) (leng
 abbrev pub IsPhaseOf : Recover → MountPhase → Type 0
 IsPhaseOf r (Recovering j) = j.recover ≡ r
 IsPhaseOf r (Reading stage) = ⊥
-IsPhaseOf r (Ready view) = ⊥
-
--- a recovery goes on after an error that is retried, and the mount has ended after any other
-abbrev pub StopsWhere : Bool → Recover → RecoverError → MountPhase → Type 0
-StopsWhere true r error phase = IsPhaseOf r phase
-StopsWhere false r error phase = HasMountEnded phase error
-
--- so it is after this error
-abbrev pub StopsRecovery : Recover → RecoverError → MountPhase → Type 0
-StopsRecovery r error phase = StopsWhere (is_retried error) r error phase
+IsPhaseOf r (Ready ready) = ⊥

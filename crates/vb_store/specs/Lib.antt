@@ -7,7 +7,9 @@ pub mod Maps
 pub mod Metadata
 pub mod MountLends
 pub mod MountLists
+pub mod MountMoves
 pub mod MountStages
+pub mod MountSteps
 pub mod Mounting
 pub mod Mounts
 pub mod MountsBeside

@@ -40,13 +40,19 @@ mount_phase m = m.phase
 abbrev pub ready_view : MountPhase → Option ViewState
 ready_view (Recovering r) = None
 ready_view (Reading stage) = None
-ready_view (Ready view) = Some view
+ready_view (Ready ready) = Some ready.view
 
 -- the size of the disk as far as the mount relies on it
 abbrev pub blocks_of_mount : MountPhase → ℕ
 blocks_of_mount (Recovering r) = blocks_of_recovery (recovery_stage r.recover)
 blocks_of_mount (Reading stage) = blocks_of stage
-blocks_of_mount (Ready view) = 0
+blocks_of_mount (Ready ready) = 0
+
+-- the same, and at its end the blocks of the store that was mounted
+abbrev pub relied_on : MountPhase → ℕ
+relied_on (Recovering r) = blocks_of_recovery (recovery_stage r.recover)
+relied_on (Reading stage) = blocks_of stage
+relied_on (Ready ready) = ready.view.head.blocks
 
 -- ---- its calls
 
@@ -54,7 +60,7 @@ blocks_of_mount (Ready view) = 0
 abbrev pub due_of_mount : MountPhase → Option RecoverCall
 due_of_mount (Recovering r) = due_of (recovery_stage r.recover)
 due_of_mount (Reading stage) = option_map ReadPlace (due_place stage)
-due_of_mount (Ready view) = None
+due_of_mount (Ready ready) = None
 
 -- the homes and map pages of the store of this head, where there is one
 abbrev pub store_places_by : (ℕ → List ℕ) → Result Head RecoverError → List ℕ
@@ -77,7 +83,7 @@ mount_calls begun = recovery_calls begun.size (reads_of begun) ++ store_reads be
 abbrev pub mount_calls_left : MountPhase → DiskState → DiskState → List RecoverCall
 mount_calls_left (Recovering r) begun d = recovery_calls_left (recovery_stage r.recover) begun ++ store_reads begun
 mount_calls_left (Reading stage) begun d = place_reads (places_due (λ place. read_at d place) stage)
-mount_calls_left (Ready view) begun d = []
+mount_calls_left (Ready ready) begun d = []
 
 -- the call that was due was the first of those that were left, and the others are left. After a fault and for want of
 -- memory all are left.
@@ -94,7 +100,7 @@ MakesNext due old new (Err Memory) = new ≡ old
 abbrev pub HasMountEnded : MountPhase → RecoverError → Type 0
 HasMountEnded (Recovering r) error = ⊥
 HasMountEnded (Reading stage) error = HasEnded stage error
-HasMountEnded (Ready view) error = ⊥
+HasMountEnded (Ready ready) error = ⊥
 
 -- after a fault and for want of memory the same call is due, and else the mount has ended with this error
 abbrev pub MountStandsAfter : MountPhase → MountPhase → RecoverError → Type 0
@@ -153,7 +159,7 @@ pub record IsMounted (view : ViewState) (begun d : DiskState) : Type 0 where
 abbrev pub IsMounting : MountPhase → DiskState → DiskState → Type 0
 IsMounting (Recovering r) begun d = IsJournalRead r.recover begun d
 IsMounting (Reading stage) begun d = IsReading stage begun d
-IsMounting (Ready view) begun d = IsMounted view begun d
+IsMounting (Ready ready) begun d = IsMounted ready.view begun d
 
 -- Ready comes with a view of the metadata that there were when the mount began
 pub record ShowsMetadata (phase : MountPhase) (begun : DiskState) : Type 0 where
@@ -205,7 +211,7 @@ MayLeaveAt (RecoveryRefused refusal) begun new = Leaves begun new
 abbrev pub MayLeave : MountPhase → DiskState → DiskState → Type 0
 MayLeave (Recovering r) begun new = MayLeaveAt (recovery_stage r.recover) begun new
 MayLeave (Reading stage) begun new = Leaves begun new
-MayLeave (Ready view) begun new = Leaves begun new
+MayLeave (Ready ready) begun new = Leaves begun new
 
 -- so does each crash of the disk
 abbrev pub EachCrashLeaves : MountPhase → DiskState → DiskState → Type 0

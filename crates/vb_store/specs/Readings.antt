@@ -36,14 +36,14 @@ IsLikeWhole w (Refused r) = ⊥
 abbrev pub IsClosed : Whole → MountPhase → Result Ahead RecoverError → Type 0
 IsClosed w (Recovering j) result = ⊥
 IsClosed w (Reading stage) result = IsLikeWhole w stage × (result ≡ Err Memory)
-IsClosed w (Ready view) result = (view.head ≡ w.head) × (view.index ≡ w.index) × (result ≡ Ok AllDone)
+IsClosed w (Ready ready) result = (ready.view.head ≡ w.head) × (ready.view.index ≡ w.index) × (result ≡ Ok AllDone)
 
 -- after a read that answered Ok the stage goes on, but at its end
 abbrev pub ClosesAfter : MountStage → MountPhase → Result Ahead RecoverError → Type 0
 ClosesAfter (ReadHome h) phase result = (phase ≡ Reading (ReadHome h)) × (result ≡ Ok More)
 ClosesAfter (ReadMap m) phase result = (phase ≡ Reading (ReadMap m)) × (result ≡ Ok More)
 ClosesAfter (Finish w) phase result = IsClosed w phase result
-ClosesAfter (Refused r) phase result = (phase ≡ Reading (Refused r)) × (result ≡ Ok More)
+ClosesAfter (Refused r) phase result = (phase ≡ Reading (Refused r)) × (result ≡ Err r.error)
 
 -- so after each answer of a read
 abbrev pub Closes : MountStage → Result (Unit {0}) RecoverError → MountPhase → Result Ahead RecoverError → Type 0

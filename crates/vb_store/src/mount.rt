@@ -5,15 +5,17 @@ ghost use Rattle.vb_steps.specs.Steps.{CallsOnce};
 ghost use Rattle.vb_disk.specs.States.{DiskState, IsDiskState};
 ghost use Rattle.vb_journal.specs.Recovering.{MakesCall, SeenStays};
 ghost use Rattle.vb_store.specs.Mounts.{blocks_of_mount, due_of_mount, mount_calls, mount_calls_left, mount_phase, ready_view, AnswersMount, HasMountEnded, IsAheadOfMount, IsMounting, MakesNext, MountsOn, MountStandsAfter};
+ghost use Rattle.vb_disk.specs.Within.{CrashesWithin};
+ghost use Rattle.vb_steps.specs.Disks.{disk_view};
+ghost use Rattle.vb_store.specs.MountSteps.{MountSteps};
 ghost use Rattle.vb_store.specs.Views.{IsView};
 
 use crate::Mounted;
 use crate::mount_phase::{JournalPhase, MountPhase};
-use crate::mount_steps::step_from;
 use std::alloc::Global;
-use std::mem;
 use vb_disk::Disk;
 use vb_journal::{Ahead, Recover, RecoverError};
+use vb_steps::step;
 
 /// A mount of the store on a disk. Each step makes one call of the disk.
 #[derive(Drop)]
@@ -63,7 +65,10 @@ impl<D> Mount<D> {
     {
         let Mount { disk, phase, .. } = self;
         match phase {
-            MountPhase::Ready(view) => Mounted { disk, view },
+            MountPhase::Ready(ready) => Mounted {
+                disk,
+                view: ready.view,
+            },
             _ => unreachable!(),
         }
     }
@@ -98,14 +103,17 @@ impl<D: Disk> Mount<D> {
 
         // From the first sync on each crash within the step leaves the metadata, and a clear disk stays clear.
         ensures crash { MountsOn (mount_phase self.old) (mount_phase self.new) (D.told self.old.disk) (D.told self.new.disk) }
+        ensures within { CrashesWithin (D.told self.old.disk) (D.told self.new.disk) }
+
+        // All of it as one relation, for callers to cite.
+        ensures steps { MountSteps (mount_phase self.old) (mount_phase self.new)
+            (disk_view (D.told self.old.disk) (D.seen self.old.disk) (D.faults self.old.disk) (D.failures_left self.old.disk) (D.calls self.old.disk))
+            (disk_view (D.told self.new.disk) (D.seen self.new.disk) (D.faults self.new.disk) (D.failures_left self.new.disk) (D.calls self.new.disk)) result }
     {
-        let recover = Recover::start(self.alloc);
-        let phase = mem::replace(
-            &mut self.phase,
-            MountPhase::Recovering(JournalPhase { recover }),
-        );
-        let (phase, result) = step_from(self.alloc, &mut self.disk, phase);
-        self.phase = phase;
-        result
+        let alloc = self.alloc;
+        match step(alloc, &mut self.phase, &mut self.disk) {
+            Ok(()) => self.phase.answer(),
+            Err(error) => Err(RecoverError::from(error)),
+        }
     }
 }

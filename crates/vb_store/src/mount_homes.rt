@@ -1,9 +1,10 @@
 // The steps of a mount that read homes.
-ghost use Rattle.std.specs.Prelude.{◌≡◌, ◌+◌, ◌≤◌, ◌++◌, [], ◌∷◌, ℕ, List, length, vec_len, IfErr, OnOk};
+ghost use Rattle.std.specs.Prelude.{◌≡◌, ◌+◌, ◌≤◌, ◌++◌, [], ◌∷◌, ℕ, List, length, vec_len, IfErr, IsErrOf, OnOk};
 ghost use Rattle.vb_head.specs.Heads.{IsHead};
 ghost use Rattle.vb_inode.specs.declared.node.Node.{Node as TheNode};
 ghost use Rattle.vb_inode.specs.Reading.{IsNodeOf};
 ghost use Rattle.vb_store.specs.MountLists.{ComesAfter, ReadsFirst};
+ghost use Rattle.vb_store.specs.MountMoves.{IsStageLike};
 ghost use Rattle.vb_store.specs.MountStages.{blocks_of, rest_of, IsNoFault, IsSameAnswer, StandsAfter};
 ghost use Rattle.vb_store.specs.NodesRead.{AreRead};
 ghost use Rattle.vb_store.specs.Surveys.{IsHomeRead};
@@ -28,6 +29,7 @@ pub(crate) fn take_home(alloc: Global, homes: Homes, page: &Page) -> Stepped
     ensures blocks { blocks_of result.0 ≤ homes.head.blocks }
     ensures error { IfErr result.1 (StandsAfter (MountStage.ReadHome homes) result.0) }
     ensures no_fault { IfErr result.1 IsNoFault }
+    ensures stays { IsErrOf result.1 RecoverError.Memory → IsStageLike (MountStage.ReadHome homes) result.0 }
 {
     let slot = homes.nodes.len() as u32;
     match check_node(alloc, page, homes.head.nodes, slot, &homes.slots) {
@@ -47,6 +49,7 @@ fn take_node(alloc: Global, mut homes: Homes, node: Node) -> Stepped
     ensures blocks { blocks_of result.0 ≤ homes.head.blocks }
     ensures error { IfErr result.1 (StandsAfter (MountStage.ReadHome homes) result.0) }
     ensures no_fault { IfErr result.1 IsNoFault }
+    ensures stays { IsErrOf result.1 RecoverError.Memory → IsStageLike (MountStage.ReadHome homes) result.0 }
 {
     if homes.nodes.len() + 1 == homes.head.nodes as usize {
         return take_last(alloc, homes, node);
@@ -69,6 +72,7 @@ fn take_last(alloc: Global, homes: Homes, node: Node) -> Stepped
     ensures blocks { blocks_of result.0 ≤ homes.head.blocks }
     ensures error { IfErr result.1 (StandsAfter (MountStage.ReadHome homes) result.0) }
     ensures no_fault { IfErr result.1 IsNoFault }
+    ensures stays { IsErrOf result.1 RecoverError.Memory → IsStageLike (MountStage.ReadHome homes) result.0 }
 {
     let Homes {
         head,

@@ -1,8 +1,7 @@
 // The steps of a mount that read map pages.
-ghost use Rattle.std.specs.Prelude.{◌≡◌, ◌≢◌, ◌<◌, ◌≤◌, ℕ, List, [], false, drop, length, Some, Ok, Err, IfErr, OnOk};
-ghost use Rattle.vb_disk.specs.Causes.{HasCause};
-ghost use Rattle.vb_disk.specs.States.{DiskState, read_at};
+ghost use Rattle.std.specs.Prelude.{◌≡◌, ◌≢◌, ◌<◌, ◌≤◌, ℕ, List, [], false, drop, length, Some, Ok, Err, IfErr, IsErrOf, OnOk};
 ghost use Rattle.vb_store.specs.Metadata.{map_checked};
+ghost use Rattle.vb_store.specs.MountMoves.{IsStageLike};
 ghost use Rattle.vb_store.specs.MountLists.{map_places, places_left, ComesAfter, ReadsFirst};
 ghost use Rattle.vb_store.specs.MountStages.{blocks_of, due_place, rest_of, rest_of_maps, HasEnded, IsNoFault, IsSameAnswer, IsStopped, StandsAfter};
 ghost use Rattle.vb_store.specs.Namings.{AreBlanksNamed};
@@ -14,7 +13,6 @@ use crate::mount_stage::MountStage;
 use crate::node_blocks::block_place;
 use std::alloc::Global;
 use vb_block::{Page, Why};
-use vb_disk::{Disk, DiskError};
 use vb_inode::Refs;
 use vb_journal::RecoverError;
 
@@ -111,6 +109,7 @@ pub(crate) fn take_map(alloc: Global, claimed: Claimed, page: &Page) -> Stepped
     ensures blocks { blocks_of result.0 ≤ claimed.tree.head.blocks }
     ensures error { IfErr result.1 (StandsAfter (MountStage.ReadMap claimed) result.0) }
     ensures no_fault { IfErr result.1 IsNoFault }
+    ensures stays { IsErrOf result.1 RecoverError.Memory → IsStageLike (MountStage.ReadMap claimed) result.0 }
 {
     match check_map(alloc, &claimed.map, page) {
         Ok(refs) => take_refs(claimed, &refs),

@@ -1,7 +1,8 @@
 // What a mount is about: the journal, or homes and map pages.
-ghost use Rattle.std.specs.Prelude.{IsSome};
+ghost use Rattle.std.specs.Prelude.{◌≡◌, IsSome};
 ghost use Rattle.vb_journal.specs.Recovering.{due_of};
 ghost use Rattle.vb_journal.specs.Recovers.{recovery_stage};
+ghost use Rattle.vb_space.specs.Spaces.{next_count};
 
 use crate::View;
 use crate::mount_stage::MountStage;
@@ -14,6 +15,13 @@ pub(crate) struct JournalPhase {
     ghost going: { IsSome (due_of (recovery_stage recover)) },
 }
 
+/// The view of a store that was mounted.
+#[derive(Drop)]
+pub(crate) struct ReadyView {
+    pub(crate) view: View,
+    ghost none_begun: { next_count view.space ≡ 0 },
+}
+
 /// How far a mount has come.
 #[derive(Drop)]
 pub(crate) enum MountPhase {
@@ -22,5 +30,5 @@ pub(crate) enum MountPhase {
     /// Homes and map pages are read, or something was refused.
     Reading(MountStage),
     /// The store is mounted.
-    Ready(View),
+    Ready(ReadyView),
 }

@@ -1,82 +1,110 @@
 // The second half of a mount, which reads homes and map pages.
-ghost use Rattle.std.specs.Prelude.{is_some, ◌≡◌, ◌≢◌, ◌≤◌, ℕ, List, Some, None, Err, IfErr, IfOk, OnOk};
-ghost use Rattle.std.specs.Option.{option_map};
-ghost use Rattle.vb_cause.specs.Causes.{HasCause, UsesFailures};
-ghost use Rattle.vb_steps.specs.Steps.{CallsOnce};
-ghost use Rattle.vb_disk.specs.States.{DiskState, read_at};
-ghost use Rattle.vb_journal.specs.Recovering.{MakesCall, ReadPlace, SeenStays};
-ghost use Rattle.vb_store.specs.MountStages.{blocks_of, due_place, rest_on, HasEnded, StandsAfter};
-ghost use Rattle.vb_store.specs.Mounts.{blocks_of_mount, mount_calls_left, IsAheadOfMount, IsMounting, MakesNext, MountsOn, MountStandsAfter};
-ghost use Rattle.vb_store.specs.Readings.{Closes, FollowsRead, ReadsOn};
+ghost use Rattle.std.specs.Prelude.{◌≡◌, ◌≤◌, ℕ, List, None, false, Err, IfErr, IfOk, IsErrOf, IsOk, OnOk};
+ghost use Rattle.vb_journal.specs.RecoverViews.{page_in};
+ghost use Rattle.vb_steps.specs.Calls.{Fits, IsPageGot};
+ghost use Rattle.vb_store.specs.MountMoves.{mount_answer, read_call, EndsAs, GivesPage, IsReadingLike, IsStageLike, ReadingGoesOn};
+ghost use Rattle.vb_store.specs.MountStages.{blocks_of, due_place, rest_of, IsNoFault, StandsAfter};
+ghost use Rattle.vb_store.specs.Mounts.{blocks_of_mount};
+ghost use Rattle.vb_store.specs.NodesRead.{is_retried};
+ghost use Rattle.vb_store.specs.Readings.{Closes, ClosesAfter, FollowsRead, IsClosed, ReadsOn};
 
-use crate::mount_maps::{Stepped, refused};
-use crate::mount_phase::MountPhase;
-use crate::mount_reads::{read_again, read_home, read_map};
+use crate::mount_homes::take_home;
+use crate::mount_maps::{Stepped, is_retried, refused, take_map};
+use crate::mount_parts::Whole;
+use crate::mount_phase::{MountPhase, ReadyView};
 use crate::mount_stage::MountStage;
-use crate::mount_steps::Moved;
 use crate::whole::view_of;
 use std::alloc::Global;
-use vb_disk::Disk;
-use vb_journal::{Ahead, RecoverError};
+use vb_block::Page;
+use vb_journal::RecoverError;
+use vb_steps::Got;
 
-/// Makes the read that is due, and mounts the store once all was read.
-pub(crate) fn read_on<D: Disk>(alloc: Global, disk: &mut D, stage: MountStage) -> Moved
-    requires { blocks_of stage ≤ D.seen disk.old }
-    ensures calls { MakesCall (option_map ReadPlace (due_place stage)) (D.told disk.old) (D.told disk.new) result.1 }
-    ensures ahead { IfOk result.1 (λ ahead. IsAheadOfMount ahead result.0) }
-    ensures error { IfErr result.1 (MountStandsAfter (MountPhase.Reading stage) result.0) }
-    ensures again { (error : RecoverError) → HasEnded stage error → result.1 ≡ Err error }
-    ensures cause { HasCause RecoverError.DiskFault (D.faults disk.old) (D.faults disk.new) result.1 }
-    ensures left { UsesFailures RecoverError.DiskFault (D.failures_left disk.old) (D.failures_left disk.new) result.1 }
-    ensures called { CallsOnce RecoverError.Memory (is_some (option_map ReadPlace (due_place stage))) (D.calls disk.old) (D.calls disk.new) result.1 }
-    ensures differ { (place : ℕ) (kept found : List ℕ) → result.1 ≡ Err (RecoverError.Damaged place kept found) → kept ≢ found }
-    ensures seen { D.seen disk.new ≡ D.seen disk.old }
-    ensures blocks { blocks_of_mount result.0 ≤ D.seen disk.new }
-    ensures list { (begun d next : DiskState) → D.told disk.old ≡ Some d → D.told disk.new ≡ Some next → IsMounting (MountPhase.Reading stage) begun d
-        → MakesNext (option_map ReadPlace (due_place stage)) (mount_calls_left (MountPhase.Reading stage) begun d) (mount_calls_left result.0 begun next) result.1 }
-    ensures crash { MountsOn (MountPhase.Reading stage) result.0 (D.told disk.old) (D.told disk.new) }
+/// The phase after the read that was due, or for want of memory the same one.
+pub(crate) fn read_on(alloc: Global, stage: MountStage, got: Got) -> Result<MountPhase, MountPhase>
+    requires { Fits (read_call (due_place stage)) got }
+    ensures goes { IfOk result (ReadingGoesOn stage got) }
+    ensures blocks { IfOk result (λ new. blocks_of_mount new ≤ blocks_of stage) }
+    ensures stays { IfErr result (IsReadingLike stage) }
+    ensures stays_blocks { IfErr result (λ new. blocks_of_mount new ≤ blocks_of stage) }
+    ensures sure { due_place stage ≡ None → IsOk result }
 {
-    let (stage, answer) = read_stage(alloc, disk, stage);
+    let (stage, answer) = take_page(alloc, stage, got);
     close(alloc, stage, answer)
 }
 
-// Makes the read that is due.
-fn read_stage<D: Disk>(alloc: Global, disk: &mut D, stage: MountStage) -> Stepped
-    requires { blocks_of stage ≤ D.seen disk.old }
-    ensures told { D.told disk.new ≡ D.told disk.old }
-    ensures rest { (d : DiskState) → D.told disk.old ≡ Some d → rest_on d result.0 ≡ rest_on d stage }
-    ensures list { (d : DiskState) → D.told disk.old ≡ Some d → ReadsOn (λ place. read_at d place) stage result.0 result.1 }
+// Takes in what was read, if something was.
+fn take_page(alloc: Global, stage: MountStage, got: Got) -> Stepped
+    requires { Fits (read_call (due_place stage)) got }
+    ensures rest { (reads : ℕ → List ℕ) → GivesPage reads (due_place stage) (page_in got) → rest_of reads result.0 ≡ rest_of reads stage }
+    ensures list { (reads : ℕ → List ℕ) → GivesPage reads (due_place stage) (page_in got) → ReadsOn reads stage result.0 result.1 }
     ensures after { OnOk result.1 (FollowsRead stage result.0) }
+    ensures blocks { blocks_of result.0 ≤ blocks_of stage }
     ensures error { IfErr result.1 (StandsAfter stage result.0) }
-    ensures again { (error : RecoverError) → HasEnded stage error → result.1 ≡ Err error }
-    ensures cause { HasCause RecoverError.DiskFault (D.faults disk.old) (D.faults disk.new) result.1 }
-    ensures left { UsesFailures RecoverError.DiskFault (D.failures_left disk.old) (D.failures_left disk.new) result.1 }
-    ensures called { CallsOnce RecoverError.Memory (is_some (option_map ReadPlace (due_place stage))) (D.calls disk.old) (D.calls disk.new) result.1 }
-    ensures differ { (place : ℕ) (kept found : List ℕ) → result.1 ≡ Err (RecoverError.Damaged place kept found) → kept ≢ found }
-    ensures seen { D.seen disk.new ≡ D.seen disk.old }
-    ensures blocks { blocks_of result.0 ≤ D.seen disk.new }
+    ensures no_fault { IfErr result.1 IsNoFault }
+    ensures stays { IsErrOf result.1 RecoverError.Memory → IsStageLike stage result.0 }
+    ensures ended { due_place stage ≡ None → IfErr result.1 (λ error. is_retried error ≡ false) }
 {
     match stage {
-        MountStage::ReadHome(homes) => read_home(alloc, disk, homes),
-        MountStage::ReadMap(claimed) => read_map(alloc, disk, claimed),
-        MountStage::Finish(whole) => read_again(alloc, disk, whole),
+        MountStage::ReadHome(homes) => take_home(alloc, homes, &page_from(got)),
+        MountStage::ReadMap(claimed) => take_map(alloc, claimed, &page_from(got)),
+        MountStage::Finish(whole) => (MountStage::Finish(whole), Ok(())),
         MountStage::Refused(refusal) => refused(refusal),
     }
 }
 
-// Mounts the store, once all was read. Where there is no memory for its view, the last read is made again.
-fn close(alloc: Global, stage: MountStage, answer: Result<(), RecoverError>) -> Moved
-    ensures { Closes stage answer result.0 result.1 }
+// The page that was read.
+fn page_from(got: Got) -> Page
+    requires { IsPageGot got }
+    ensures { result ≡ page_in got }
 {
-    match (stage, answer) {
-        (MountStage::Finish(whole), Ok(())) => match view_of(alloc, whole) {
-            Ok(view) => (MountPhase::Ready(view), Ok(Ahead::Ready)),
-            Err(whole) => {
-                let stage = MountStage::Finish(whole);
-                (MountPhase::Reading(stage), Err(RecoverError::Memory))
+    match got {
+        Got::Page(page) => page,
+        Got::Size(_) | Got::Done => unreachable!(),
+    }
+}
+
+// Goes on after a read, unless memory ran out for what it gave.
+fn close(
+    alloc: Global,
+    stage: MountStage,
+    answer: Result<(), RecoverError>,
+) -> Result<MountPhase, MountPhase>
+    requires ends { IfErr answer (EndsAs stage) }
+    requires no_fault { IfErr answer IsNoFault }
+    ensures closes { IfOk result (λ phase. Closes stage answer phase (mount_answer phase)) }
+    ensures stands { IfErr result (λ phase. phase ≡ MountPhase.Reading stage) }
+    ensures memory { IfErr result (λ phase. answer ≡ Err RecoverError.Memory) }
+{
+    match answer {
+        Ok(()) => Ok(go_on(alloc, stage)),
+        Err(error) => {
+            if is_retried(&error) {
+                Err(MountPhase::Reading(stage))
+            } else {
+                Ok(MountPhase::Reading(stage))
             }
-        },
-        (stage, Ok(())) => (MountPhase::Reading(stage), Ok(Ahead::More)),
-        (stage, Err(error)) => (MountPhase::Reading(stage), Err(error)),
+        }
+    }
+}
+
+// Mounts the store, once all was read.
+fn go_on(alloc: Global, stage: MountStage) -> MountPhase
+    ensures { ClosesAfter stage result (mount_answer result) }
+{
+    match stage {
+        MountStage::Finish(whole) => mounted(alloc, whole),
+        MountStage::ReadHome(homes) => MountPhase::Reading(MountStage::ReadHome(homes)),
+        MountStage::ReadMap(claimed) => MountPhase::Reading(MountStage::ReadMap(claimed)),
+        MountStage::Refused(refusal) => MountPhase::Reading(MountStage::Refused(refusal)),
+    }
+}
+
+// Mounts the store. Where there is no memory for its view, the last read is made again.
+fn mounted(alloc: Global, whole: Whole) -> MountPhase
+    ensures { IsClosed whole result (mount_answer result) }
+{
+    match view_of(alloc, whole) {
+        Ok(view) => MountPhase::Ready(ReadyView { view }),
+        Err(whole) => MountPhase::Reading(MountStage::Finish(whole)),
     }
 }

@@ -1,4 +1,4 @@
-// How far a mount has come.
+// How far a mount has come that reads homes and map pages.
 use crate::mount_parts::{Claimed, Homes, Refusal, Whole};
 
 /// Which call of a mount is due.

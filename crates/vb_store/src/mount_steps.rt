@@ -1,86 +1,81 @@
-// The steps of a mount: those of its recovery, and then those that read homes and map pages.
-ghost use Rattle.std.specs.Prelude.{is_some, ◌≡◌, ◌≢◌, ◌≤◌, ℕ, List, [], Some, Err, true, false, vec_len, IfErr, IfOk, IfSome, IsSome};
-ghost use Rattle.vb_cause.specs.Causes.{HasCause, UsesFailures};
-ghost use Rattle.vb_steps.specs.Steps.{CallsOnce};
-ghost use Rattle.vb_disk.specs.States.{DiskState};
+// How a mount goes on after its calls: those of its recovery, and then the reads of homes and map pages.
+ghost use Rattle.std.specs.Prelude.{◌≡◌, ◌≢◌, ◌≤◌, ℕ, List, [], None, false, vec_len, IfErr, IfOk, IfSome, IsOk};
 ghost use Rattle.vb_head.specs.Heads.{IsHead};
-ghost use Rattle.vb_journal.specs.Recovering.{due_of, MakesCall, SeenStays};
 ghost use Rattle.vb_journal.specs.Recovering as recoveries;
 ghost use Rattle.vb_journal.specs.Recovers.{recovery_stage};
-ghost use Rattle.vb_store.specs.LentImages.{lent_fault, StopsRecovery};
+ghost use Rattle.vb_journal.specs.RecoverViews.{answer_in, recover_call, view_of};
+ghost use Rattle.vb_steps.specs.Calls.{is_read, seen_after, Fits};
+ghost use Rattle.vb_store.specs.LentImages.{lent_fault};
+ghost use Rattle.vb_store.specs.MountMoves.{mount_call, FollowsRecovery, IsRecoveryLike, IsSameMount, MountGoesOn, RecoveryGoesOn};
+ghost use Rattle.vb_store.specs.Mounts.{blocks_of_mount};
 ghost use Rattle.vb_store.specs.NodesRead.{is_retried};
-ghost use Rattle.vb_store.specs.Mounts.{blocks_of_mount, due_of_mount, mount_calls_left, HasMountEnded, IsAheadOfMount, IsMounting, MakesNext, MountsOn, MountStandsAfter};
 
-use crate::mount_maps::is_retried;
 use crate::mount_parts::{Homes, Nodes, Refusal};
 use crate::mount_phase::{JournalPhase, MountPhase};
 use crate::mount_reading::read_on;
 use crate::mount_stage::MountStage;
 use std::alloc::Global;
-use vb_disk::Disk;
 use vb_head::State;
 use vb_inode::node_fault;
 use vb_journal::{Ahead, Recover, RecoverError, Recovery};
+use vb_steps::{Got, Machine};
 
-/// The phase after a step, and what it answers.
-pub(crate) type Moved = (MountPhase, Result<Ahead, RecoverError>);
-
-/// Makes the call that is due in a phase.
-pub(crate) fn step_from<D: Disk>(alloc: Global, disk: &mut D, phase: MountPhase) -> Moved
-    requires { blocks_of_mount phase ≤ D.seen disk.old }
-    ensures calls { MakesCall (due_of_mount phase) (D.told disk.old) (D.told disk.new) result.1 }
-    ensures ahead { IfOk result.1 (λ ahead. IsAheadOfMount ahead result.0) }
-    ensures error { IfErr result.1 (MountStandsAfter phase result.0) }
-    ensures again { (error : RecoverError) → HasMountEnded phase error → result.1 ≡ Err error }
-    ensures cause { HasCause RecoverError.DiskFault (D.faults disk.old) (D.faults disk.new) result.1 }
-    ensures left { UsesFailures RecoverError.DiskFault (D.failures_left disk.old) (D.failures_left disk.new) result.1 }
-    ensures called { CallsOnce RecoverError.Memory (is_some (due_of_mount phase)) (D.calls disk.old) (D.calls disk.new) result.1 }
-    ensures differ { (place : ℕ) (kept found : List ℕ) → result.1 ≡ Err (RecoverError.Damaged place kept found) → kept ≢ found }
-    ensures seen { SeenStays (due_of_mount phase) (D.seen disk.old) (D.seen disk.new) }
-    ensures blocks { blocks_of_mount result.0 ≤ D.seen disk.new }
-    ensures list { (begun d next : DiskState) → D.told disk.old ≡ Some d → D.told disk.new ≡ Some next → IsMounting phase begun d
-        → MakesNext (due_of_mount phase) (mount_calls_left phase begun d) (mount_calls_left result.0 begun next) result.1 }
-    ensures crash { MountsOn phase result.0 (D.told disk.old) (D.told disk.new) }
+/// The phase after the call that was due, or for want of memory the same one.
+pub(crate) fn went_on(phase: MountPhase, alloc: Global, got: Got) -> Result<MountPhase, MountPhase>
+    requires { Fits (mount_call phase) got }
+    ensures goes { IfOk result (MountGoesOn phase got) }
+    ensures blocks { IfOk result (λ new. blocks_of_mount new ≤ seen_after (mount_call phase) (blocks_of_mount phase) got) }
+    ensures stays { IfErr result (IsSameMount phase) }
+    ensures stays_blocks { IfErr result (λ new. blocks_of_mount new ≤ blocks_of_mount phase) }
+    ensures sure { is_read (mount_call phase) ≡ false → IsOk result }
 {
     match phase {
-        MountPhase::Recovering(journal) => recover_on(alloc, disk, journal),
-        MountPhase::Reading(stage) => read_on(alloc, disk, stage),
-        MountPhase::Ready(view) => (MountPhase::Ready(view), Ok(Ahead::Ready)),
+        MountPhase::Recovering(journal) => recover_on(alloc, journal, got),
+        MountPhase::Reading(stage) => read_on(alloc, stage, got),
+        MountPhase::Ready(ready) => Ok(MountPhase::Ready(ready)),
     }
 }
 
-// Makes the next call of the recovery.
-fn recover_on<D: Disk>(alloc: Global, disk: &mut D, journal: JournalPhase) -> Moved
-    requires { recoveries.blocks_of (recovery_stage journal.recover) ≤ D.seen disk.old }
-    ensures calls { MakesCall (due_of (recovery_stage journal.recover)) (D.told disk.old) (D.told disk.new) result.1 }
-    ensures ahead { IfOk result.1 (λ ahead. IsAheadOfMount ahead result.0) }
-    ensures error { IfErr result.1 (MountStandsAfter (MountPhase.Recovering journal) result.0) }
-    ensures cause { HasCause RecoverError.DiskFault (D.faults disk.old) (D.faults disk.new) result.1 }
-    ensures left { UsesFailures RecoverError.DiskFault (D.failures_left disk.old) (D.failures_left disk.new) result.1 }
-    ensures called { CallsOnce RecoverError.Memory (is_some (due_of (recovery_stage journal.recover))) (D.calls disk.old) (D.calls disk.new) result.1 }
-    ensures differ { (place : ℕ) (kept found : List ℕ) → result.1 ≡ Err (RecoverError.Damaged place kept found) → kept ≢ found }
-    ensures seen { SeenStays (due_of (recovery_stage journal.recover)) (D.seen disk.old) (D.seen disk.new) }
-    ensures blocks { blocks_of_mount result.0 ≤ D.seen disk.new }
-    ensures list { (begun d next : DiskState) → D.told disk.old ≡ Some d → D.told disk.new ≡ Some next → IsMounting (MountPhase.Recovering journal) begun d
-        → MakesNext (due_of (recovery_stage journal.recover)) (mount_calls_left (MountPhase.Recovering journal) begun d) (mount_calls_left result.0 begun next) result.1 }
-    ensures crash { MountsOn (MountPhase.Recovering journal) result.0 (D.told disk.old) (D.told disk.new) }
+// After a call of the recovery.
+fn recover_on(alloc: Global, journal: JournalPhase, got: Got) -> Result<MountPhase, MountPhase>
+    requires { Fits (recover_call (recovery_stage journal.recover)) got }
+    ensures goes { IfOk result (RecoveryGoesOn journal.recover got) }
+    ensures blocks { IfOk result (λ new. blocks_of_mount new
+        ≤ seen_after (recover_call (recovery_stage journal.recover)) (recoveries.blocks_of (recovery_stage journal.recover)) got) }
+    ensures stays { IfErr result (IsRecoveryLike journal.recover) }
+    ensures stays_blocks { IfErr result (λ new. blocks_of_mount new ≤ recoveries.blocks_of (recovery_stage journal.recover)) }
+    ensures sure { is_read (recover_call (recovery_stage journal.recover)) ≡ false → IsOk result }
 {
     let JournalPhase { mut recover } = journal;
-    match recover.step(disk) {
+    match recover.after(alloc, got) {
+        Ok(()) => Ok(after_recovery(alloc, recover)),
+        Err(_) => Err(MountPhase::Recovering(JournalPhase { recover })),
+    }
+}
+
+// Where the recovery leads: it goes on, the homes are read, or the mount has ended.
+fn after_recovery(alloc: Global, recover: Recover) -> MountPhase
+    ensures follows { FollowsRecovery recover (answer_in (view_of (recovery_stage recover))) result }
+    ensures blocks { blocks_of_mount result ≤ recoveries.blocks_of (recovery_stage recover) }
+{
+    match recover.answer() {
         Ok(Ahead::More) => match lent_fault(&recover) {
-            None => (
-                MountPhase::Recovering(JournalPhase { recover }),
-                Ok(Ahead::More),
-            ),
+            None => MountPhase::Recovering(JournalPhase { recover }),
             Some(error) => refuse(Refusal { error }),
         },
         Ok(Ahead::Ready) => {
             let homes = no_homes(alloc, recover.finish());
-            let stage = MountStage::ReadHome(homes);
-            (MountPhase::Reading(stage), Ok(Ahead::More))
+            MountPhase::Reading(MountStage::ReadHome(homes))
         }
-        Err(error) => stop(recover, error),
+        Err(error) => refuse(Refusal { error }),
     }
+}
+
+// The end, for this reason.
+fn refuse(refusal: Refusal) -> MountPhase
+    ensures { result ≡ MountPhase.Reading (MountStage.Refused refusal) }
+{
+    MountPhase::Reading(MountStage::Refused(refusal))
 }
 
 // Why the image that was read is refused, where one was: its node fails a check.
@@ -112,31 +107,5 @@ fn no_homes(alloc: Global, recovery: Recovery) -> Homes
         place,
         slots,
         nodes,
-    }
-}
-
-// The end, for this reason.
-fn refuse(refusal: Refusal) -> Moved
-    ensures phase { result.0 ≡ MountPhase.Reading (MountStage.Refused refusal) }
-    ensures error { result.1 ≡ Err refusal.error }
-{
-    let error = refusal.error;
-    (
-        MountPhase::Reading(MountStage::Refused(refusal)),
-        Err(error),
-    )
-}
-
-// A recovery whose step answered an error: the same call is made again, or the mount has ended.
-fn stop(recover: Recover, error: RecoverError) -> Moved
-    requires due { is_retried error ≡ true → IsSome (due_of (recovery_stage recover)) }
-    requires differ { (place : ℕ) (kept found : List ℕ) → error ≡ RecoverError.Damaged place kept found → kept ≢ found }
-    ensures phase { StopsRecovery recover error result.0 }
-    ensures error { result.1 ≡ Err error }
-{
-    if is_retried(&error) {
-        (MountPhase::Recovering(JournalPhase { recover }), Err(error))
-    } else {
-        refuse(Refusal { error })
     }
 }

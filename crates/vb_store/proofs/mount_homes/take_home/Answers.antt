@@ -5,6 +5,7 @@ use Rattle.std.proofs.Common.{refl}
 use Rattle.vb_store.specs.declared.mount_stage.MountStage.TheVariants.{ReadHome}
 use Rattle.vb_store.proofs.MountRests.{due-no_fault, err-at, home-stopped-by}
 use Rattle.vb_store.proofs.mount_homes.take_home.Goals as goal
+use Rattle.vb_store.proofs.StagesKept.{home-stays}
 
 pub returns-in-Err-clause-rest : goal.returns-in-Err-clause-rest
 returns-in-Err-clause-rest c = λ reads read. home-stopped-by reads c.args.homes c.args.page.now c.in-Err.error c.stopped.result.0 c.deref.result.now c.len-slot.result read c.stopped.ensures.stage c.deref.ensures.value c.len-slot.ensures c.in-Err.ensures.due
@@ -17,3 +18,6 @@ returns-in-Err-clause-list c = λ reads read. reads-stopped-by reads _ (ReadHome
 
 pub stopped-requires : goal.stopped-requires
 stopped-requires c = due-differs _ c.in-Err.error (node-differs _ _ _) c.in-Err.ensures.due
+
+pub returns-in-Err-clause-stays : goal.returns-in-Err-clause-stays
+returns-in-Err-clause-stays c = home-stays c.args.homes c.args.homes c.stopped.result.0 c.in-Err.error c.stopped.result.1 c.stopped.ensures.error c.stopped.ensures.stage refl refl refl refl

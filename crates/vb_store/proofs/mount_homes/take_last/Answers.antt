@@ -10,6 +10,7 @@ use Rattle.vb_store.proofs.PlacesLeft.{list-ok, ends_at, places-like, places-sur
 use Rattle.vb_store.specs.MountStages.{HasEnded}
 use Rattle.vb_store.proofs.MountRests.{due-no_fault, ends-no_fault, err-at, on_ok, rest-survey, stands_after_like, survey-stopped}
 use Rattle.vb_store.proofs.mount_homes.take_last.Goals as goal
+use Rattle.vb_store.proofs.StagesKept.{ended-stays, home-stays}
 
 pub survey_of-requires-clause-read : goal.survey_of-requires-clause-read
 survey_of-requires-clause-read c =
@@ -70,3 +71,13 @@ returns-in-Ok-clause-list c =
     let e = c.in-Ok.ensures in
     λ reads read. reads-on reads (2 + length h.nodes) (ReadHome h) c.go_on.result.0 c.go_on.result.1 (ends_at (HasEnded c.go_on.result.0) c.go_on.result.1 c.go_on.ensures.error)
     (list-ok reads (2 + length h.nodes) (ReadHome h) c.go_on.result.0 c.in-Ok.survey.maps.items c.go_on.result.1 (places-survey reads h c.args.node c.slice.result.now _ _ c.in-Ok.survey.index c.in-Ok.survey.maps.items read c.requires.last all e.index e.maps) c.go_on.ensures.list)
+
+pub returns-in-Err-clause-stays : goal.returns-in-Err-clause-stays
+returns-in-Err-clause-stays c =
+    let h = c.args.homes in
+    let added : c.add.new.self ≡ h.nodes ++ c.args.node ∷ [] = on_ok _ c.add.result c.if-is_err.ensures.value c.add.ensures.ok in
+    let w = c.without_last-homes.ensures in
+    home-stays h c.without_last-homes.result c.stopped.result.0 c.in-Err.error c.stopped.result.1 c.stopped.ensures.error c.stopped.ensures.stage w.head w.place w.slots (w.nodes h.nodes c.args.node added)
+
+pub returns-in-Ok-clause-stays : goal.returns-in-Ok-clause-stays
+returns-in-Ok-clause-stays c = ended-stays (ReadHome c.args.homes) c.go_on.result.0 c.go_on.result.1 c.go_on.ensures.error

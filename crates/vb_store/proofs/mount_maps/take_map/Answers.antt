@@ -8,6 +8,7 @@ use Rattle.vb_store.specs.declared.mount_stage.MountStage.TheVariants.{ReadMap}
 use Rattle.std.proofs.Common.{refl}
 use Rattle.vb_store.proofs.MountRests.{due-no_fault, ends-no_fault, err-at, map-stopped}
 use Rattle.vb_store.proofs.mount_maps.take_map.Goals as goal
+use Rattle.vb_store.proofs.StagesKept.{ended-stays, map-stays}
 
 pub returns-in-Ok-clause-rest : goal.returns-in-Ok-clause-rest
 returns-in-Ok-clause-rest c = λ reads read. c.take_refs.ensures.rest reads (ap (map_checked c.args.claimed.map) read ∙ c.in-Ok.ensures.due)
@@ -29,3 +30,9 @@ stopped-requires c = due-differs _ c.in-Err.error (map-differs c.args.claimed.ma
 
 pub returns-in-Ok-clause-list : goal.returns-in-Ok-clause-list
 returns-in-Ok-clause-list c = λ reads read. c.take_refs.ensures.list reads
+
+pub returns-in-Err-clause-stays : goal.returns-in-Err-clause-stays
+returns-in-Err-clause-stays c = map-stays c.args.claimed c.stopped.result.0 c.in-Err.error c.stopped.result.1 c.stopped.ensures.error c.stopped.ensures.stage
+
+pub returns-in-Ok-clause-stays : goal.returns-in-Ok-clause-stays
+returns-in-Ok-clause-stays c = ended-stays (ReadMap c.args.claimed) c.take_refs.result.0 c.take_refs.result.1 c.take_refs.ensures.error
