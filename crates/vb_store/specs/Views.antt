@@ -76,3 +76,7 @@ pub record IsView (v : ViewState) : Type 0 where
   pub end : v.space.first + length v.space.users ≡ v.head.blocks
   pub few : committed_count v.space ≤ v.index.limits.pages
   pub committed : (place : ℕ) → IsCommitted v.space place ↔ Contains (places_in v.index.nodes) place
+
+-- no next view is begun in its data places
+abbrev pub HasNoneBegun : ViewState → Type 0
+HasNoneBegun v = next_count v.space ≡ 0

@@ -4,11 +4,11 @@ ghost use Rattle.vb_cause.specs.Causes.{HasCause, UsesFailures};
 ghost use Rattle.vb_steps.specs.Steps.{CallsOnce};
 ghost use Rattle.vb_disk.specs.States.{DiskState, IsDiskState};
 ghost use Rattle.vb_journal.specs.Recovering.{MakesCall, SeenStays};
-ghost use Rattle.vb_store.specs.Mounts.{blocks_of_mount, due_of_mount, mount_calls, mount_calls_left, mount_phase, ready_view, AnswersMount, HasMountEnded, IsAheadOfMount, IsMounting, MakesNext, MountsOn, MountStandsAfter};
+ghost use Rattle.vb_store.specs.Mounts.{blocks_of_mount, due_of_mount, mount_calls, mount_calls_left, mount_phase, ready_view, relied_on, AnswersMount, HasMountEnded, IsAheadOfMount, IsMounting, MakesNext, MountsOn, MountStandsAfter};
 ghost use Rattle.vb_disk.specs.Within.{CrashesWithin};
 ghost use Rattle.vb_steps.specs.Disks.{disk_view};
 ghost use Rattle.vb_store.specs.MountSteps.{MountSteps};
-ghost use Rattle.vb_store.specs.Views.{IsView};
+ghost use Rattle.vb_store.specs.Views.{HasNoneBegun, IsView};
 
 use crate::Mounted;
 use crate::mount_phase::{JournalPhase, MountPhase};
@@ -33,6 +33,7 @@ impl<D> Mount<D> {
     pub fn start(alloc: Global, disk: D) -> Mount<D>
         ensures disk { result.disk ≡ disk }
         ensures blocks { blocks_of_mount (mount_phase result) ≡ 0 }
+        ensures relied { relied_on (mount_phase result) ≡ 0 }
         ensures known { (begun : DiskState) → IsDiskState begun → IsMounting (mount_phase result) begun begun }
         ensures calls { (begun : DiskState) → mount_calls_left (mount_phase result) begun begun ≡ mount_calls begun }
     {
@@ -55,13 +56,19 @@ impl<D> Mount<D> {
     {
         &mut self.disk
     }
+}
 
-    /// The disk, and the view of the store that stands on it.
+impl<D: Disk> Mount<D> {
+    /// The disk, and the view of the store that stands on it. No next view is begun.
     pub fn finish(self) -> Mounted<D>
         requires { IsSome (ready_view (mount_phase self)) }
         ensures disk { result.disk ≡ self.disk }
         ensures view { ready_view (mount_phase self) ≡ Some result.view }
         ensures shown { IsView result.view }
+        ensures none_begun { HasNoneBegun result.view }
+
+        // The disk has all blocks of the store, as each step keeps it.
+        ensures blocks { relied_on (mount_phase self) ≤ D.seen self.disk → result.view.head.blocks ≤ D.seen result.disk }
     {
         let Mount { disk, phase, .. } = self;
         match phase {
@@ -72,9 +79,7 @@ impl<D> Mount<D> {
             _ => unreachable!(),
         }
     }
-}
 
-impl<D: Disk> Mount<D> {
     /// Makes the next call of the disk. After a fault and for want of memory the next step makes the same call again;
     /// after another error it gives the same answer, and makes none.
     pub fn step(&mut self) -> Result<Ahead, RecoverError>
@@ -91,6 +96,7 @@ impl<D: Disk> Mount<D> {
         ensures differ { (place : ℕ) (kept found : List ℕ) → result ≡ Err (RecoverError.Damaged place kept found) → kept ≢ found }
         ensures seen { SeenStays (due_of_mount (mount_phase self.old)) (D.seen self.old.disk) (D.seen self.new.disk) }
         ensures blocks { blocks_of_mount (mount_phase self.new) ≤ D.seen self.new.disk }
+        ensures relied { relied_on (mount_phase self.old) ≤ D.seen self.old.disk → relied_on (mount_phase self.new) ≤ D.seen self.new.disk }
 
         // Ready comes with the metadata of what reads gave when the mount began, and a refusal where they are refused so.
         ensures answer { (begun d : DiskState) → D.told self.old.disk ≡ Some d → IsMounting (mount_phase self.old) begun d

@@ -50,6 +50,9 @@ returns-in-Ok-clause-list g c begun d next told new_told is =
     mount-made-as (λ r. MakesNext (due_of_mount c.args.self.now.phase) (mount_calls_left c.args.self.now.phase begun d) (mount_calls_left c.step.new.machine begun next) r) c.step.new.machine c.answer.result c.answer.ensures.answer
     (mount-list c.args.self.now.phase c.step.new.machine (g.D.Disk.told c.args.self.now.disk) (g.D.Disk.told c.step.new.disk) c.in-Ok.field-0 _ (λ e was. g.met.D.Disk.valid c.args.self.now.disk e was) c.in-Ok.ensures.steps begun d next told new_told is)
 
+pub returns-in-Ok-clause-relied : goal.returns-in-Ok-clause-relied
+returns-in-Ok-clause-relied g c = mount-relied c.args.self.now.phase c.step.new.machine c.in-Ok.ensures.steps.went.got (g.D.Disk.seen c.args.self.now.disk) (g.D.Disk.seen c.step.new.disk) c.in-Ok.ensures.steps.went.goes c.in-Ok.ensures.seen c.in-Ok.ensures.blocks
+
 pub returns-in-Ok-clause-steps : goal.returns-in-Ok-clause-steps
 returns-in-Ok-clause-steps g c = record {
   calls = returns-in-Ok-clause-calls g c;
@@ -62,7 +65,7 @@ returns-in-Ok-clause-steps g c = record {
   differ = returns-in-Ok-clause-differ g c;
   seen = returns-in-Ok-clause-seen g c;
   blocks = c.in-Ok.ensures.blocks;
-  relied = mount-relied c.args.self.now.phase c.step.new.machine c.in-Ok.ensures.steps.went.got (g.D.Disk.seen c.args.self.now.disk) (g.D.Disk.seen c.step.new.disk) c.in-Ok.ensures.steps.went.goes c.in-Ok.ensures.seen c.in-Ok.ensures.blocks;
+  relied = returns-in-Ok-clause-relied g c;
   answer = returns-in-Ok-clause-answer g c;
   list = returns-in-Ok-clause-list g c;
   within = c.in-Ok.ensures.within;
@@ -97,6 +100,9 @@ returns-in-Err-clause-answer g c begun d told is =
 pub returns-in-Err-clause-list : goal.returns-in-Err-clause-list
 returns-in-Err-clause-list g c = lost-list c.args.self.now.phase c.step.new.machine (g.D.Disk.told c.args.self.now.disk) (g.D.Disk.told c.step.new.disk) c.in-Err.error c.from.result c.from.ensures c.in-Err.ensures.steps
 
+pub returns-in-Err-clause-relied : goal.returns-in-Err-clause-relied
+returns-in-Err-clause-relied g c = lost-relied c.args.self.now.phase c.step.new.machine (g.D.Disk.seen c.args.self.now.disk) (g.D.Disk.seen c.step.new.disk) c.in-Err.ensures.steps.stays c.in-Err.ensures.blocks c.in-Err.ensures.seen
+
 pub returns-in-Err-clause-steps : goal.returns-in-Err-clause-steps
 returns-in-Err-clause-steps g c = record {
   calls = returns-in-Err-clause-calls g c;
@@ -109,7 +115,7 @@ returns-in-Err-clause-steps g c = record {
   differ = search rules;
   seen = returns-in-Err-clause-seen g c;
   blocks = c.in-Err.ensures.blocks;
-  relied = lost-relied c.args.self.now.phase c.step.new.machine (g.D.Disk.seen c.args.self.now.disk) (g.D.Disk.seen c.step.new.disk) c.in-Err.ensures.steps.stays c.in-Err.ensures.blocks c.in-Err.ensures.seen;
+  relied = returns-in-Err-clause-relied g c;
   answer = returns-in-Err-clause-answer g c;
   list = returns-in-Err-clause-list g c;
   within = c.in-Err.ensures.within;
