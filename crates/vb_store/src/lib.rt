@@ -64,6 +64,8 @@ pub use settled_stores::{a_store_at_rest_is_settled_for_a_view, what_is_read_lea
 pub use view::{Mounted, View};
 
 #[cfg(test)]
+mod damage_tests;
+#[cfg(test)]
 mod forged_tests;
 #[cfg(test)]
 mod mount_tests;
