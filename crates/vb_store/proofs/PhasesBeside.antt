@@ -25,6 +25,7 @@ use Rattle.vb_store.specs.declared.mount_parts.Whole.{Whole}
 use Rattle.vb_store.specs.declared.mount_phase.JournalPhase.{JournalPhase}
 use Rattle.vb_store.specs.declared.mount_phase.MountPhase.{MountPhase}
 use Rattle.vb_store.specs.declared.mount_phase.MountPhase.TheVariants.{Recovering, Reading, Ready}
+use Rattle.vb_store.specs.declared.mount_phase.ReadyView.{ReadyView}
 use Rattle.vb_store.specs.declared.mount_stage.MountStage.{MountStage}
 use Rattle.vb_store.specs.declared.mount_stage.MountStage.TheVariants.{ReadHome, ReadMap, Finish, Refused}
 use Rattle.vb_store.specs.Beside.{HasImagesBeside, HasReason, IsBeside}
@@ -64,7 +65,7 @@ pub mount-kept : (views : List TreeView) (made : Bool) (phase : MountPhase) (d :
 mount-kept views made (Recovering r) d place page is = IsBeside-damaged views made (view_of (recovery_stage r.recover)) d place page is
 mount-kept views made (Reading stage) d place page (inl is) = inl (reads-kept views made stage d place page is)
 mount-kept views made (Reading stage) d place page (inr is) = inr (refused-kept views made stage d place page is)
-mount-kept views made (Ready view) d place page is = record {
+mount-kept views made (Ready ready) d place page is = record {
   its = record { view = is.its.view; listed = is.its.listed; is = settled-kept is.its.view d place page is.its.is };
   metadata = is.metadata;
   recovers = RecoversOneOf-fewer views made (damaged d place page) d (choices-damaged d place page) is.recovers;
@@ -74,7 +75,7 @@ pub mount-recovers : (views : List TreeView) (made : Bool) (phase : MountPhase) 
 mount-recovers views made (Recovering r) d is = is.recovers
 mount-recovers views made (Reading stage) d (inl is) = reads-recover views made stage d is
 mount-recovers views made (Reading stage) d (inr is) = is.recovers
-mount-recovers views made (Ready view) d is = is.recovers
+mount-recovers views made (Ready ready) d is = is.recovers
 
 pub mount-crashed : (views : List TreeView) (made : Bool) (phase : MountPhase) (d new : DiskState) → IsMountedBeside views made phase d → MayCrashTo d new → RecoversOneOf views made new
 mount-crashed views made phase d new is crash = RecoversOneOf-fewer views made new d (choices-crashed d new crash) (mount-recovers views made phase d is)
@@ -98,12 +99,12 @@ mount-homes views made d homes disk is none = inl (reads-begin views made d home
 pub mount-ended : (views : List TreeView) (made : Bool) (why : RecoverError) (stage : MountStage) (d : DiskState) → IsBeside views made (AtRefused why) d → HasEnded stage why → IsMountedBeside views made (Reading stage) d
 mount-ended views made why stage d is ended = inr (record { error = why; ended = ended; reason = is.known; recovers = is.recovers })
 
-pub mount-view : (views : List TreeView) (made : Bool) (whole : Whole) (view : ViewState) (d : DiskState) → IsReadBeside views made (Finish whole) d → view.head ≡ whole.head → view.index ≡ whole.index → IsMountedBeside views made (Ready view) d
-mount-view views made whole view d is head index = record {
+pub mount-view : (views : List TreeView) (made : Bool) (whole : Whole) (ready : ReadyView) (d : DiskState) → IsReadBeside views made (Finish whole) d → ready.view.head ≡ whole.head → ready.view.index ≡ whole.index → IsMountedBeside views made (Ready ready) d
+mount-view views made whole ready d is head index = record {
   its = is.its;
   metadata = reads-end views made whole d is
       ∙ ap (λ (h : Head). let m : Metadata = record { head = h; held = whole.index.nodes } in m) (sym head)
-      ∙ ap (λ (i : IndexState). let m : Metadata = record { head = view.head; held = i.nodes } in m) (sym index);
+      ∙ ap (λ (i : IndexState). let m : Metadata = record { head = ready.view.head; held = i.nodes } in m) (sym index);
   recovers = reads-recover views made (Finish whole) d is;
 }
 

@@ -30,4 +30,4 @@ pub record IsReadyBeside (views : List TreeView) (made : Bool) (view : ViewState
 abbrev pub IsMountedBeside : List TreeView → Bool → MountPhase → DiskState → Type 0
 IsMountedBeside views made (Recovering r) d = IsBeside views made (view_of (recovery_stage r.recover)) d
 IsMountedBeside views made (Reading stage) d = IsReadBeside views made stage d ⊎ IsRefusedBeside views made stage d
-IsMountedBeside views made (Ready view) d = IsReadyBeside views made view d
+IsMountedBeside views made (Ready ready) d = IsReadyBeside views made ready.view d

@@ -14,6 +14,7 @@ ghost use Rattle.vb_store.specs.declared.mount_parts.Whole.{Whole};
 ghost use Rattle.vb_store.specs.declared.mount_phase.JournalPhase.{JournalPhase};
 ghost use Rattle.vb_store.specs.declared.mount_phase.MountPhase.{MountPhase};
 ghost use Rattle.vb_store.specs.declared.mount_phase.MountPhase.TheVariants.{Reading, Ready, Recovering};
+ghost use Rattle.vb_store.specs.declared.mount_phase.ReadyView.{ReadyView};
 ghost use Rattle.vb_store.specs.declared.mount_stage.MountStage.{MountStage};
 ghost use Rattle.vb_store.specs.declared.mount_stage.MountStage.TheVariants.{Finish, ReadHome};
 ghost use Rattle.vb_store.specs.Beside.{HasReason, IsBeside};
@@ -22,7 +23,6 @@ ghost use Rattle.vb_store.specs.MountsBeside.{IsMountedBeside, IsReadyBeside};
 ghost use Rattle.vb_store.specs.MountStages.{HasEnded};
 ghost use Rattle.vb_store.specs.OneOf.{RecoversOneOf, TreeView};
 ghost use Rattle.vb_store.specs.Settled.{IsReadBeside};
-ghost use Rattle.vb_store.specs.Views.{ViewState};
 
 /// In each phase of a mount the same views may be recovered from its disk, and none besides, whatever place is damaged at
 /// whatever moment. A mount that is ready has one of these views, for which its disk is settled.
@@ -35,8 +35,8 @@ pub fn a_mount_goes_on_beside_damage()
         → RecoversOneOf views made d }
     ensures crash { (views : List TreeView) (made : Bool) (phase : MountPhase) (d new : DiskState) → IsMountedBeside views made phase d
         → MayCrashTo d new → RecoversOneOf views made new }
-    ensures ready { (views : List TreeView) (made : Bool) (view : ViewState) (d : DiskState) → IsMountedBeside views made (Ready view) d
-        → IsReadyBeside views made view d }
+    ensures ready { (views : List TreeView) (made : Bool) (ready : ReadyView) (d : DiskState) → IsMountedBeside views made (Ready ready) d
+        → IsReadyBeside views made ready.view d }
     ensures refused { (views : List TreeView) (made : Bool) (stage : MountStage) (d : DiskState) (error : RecoverError)
         → IsMountedBeside views made (Reading stage) d → HasEnded stage error → HasReason made error d }
 {}
@@ -52,6 +52,6 @@ pub fn a_mount_hands_on_what_it_knows()
         → IsBeside views made (AtImage head count images) d
         → image_refusal head.nodes (journal_place head + length images) images (read_at d (journal_place head + length images)) ≡ None
         → result_err (node_or_refusal place (node_read head.nodes (read_at d (journal_place head + length images)))) ≡ None }
-    ensures view { (views : List TreeView) (made : Bool) (whole : Whole) (view : ViewState) (d : DiskState) → IsReadBeside views made (Finish whole) d
-        → view.head ≡ whole.head → view.index ≡ whole.index → IsMountedBeside views made (Ready view) d }
+    ensures view { (views : List TreeView) (made : Bool) (whole : Whole) (ready : ReadyView) (d : DiskState) → IsReadBeside views made (Finish whole) d
+        → ready.view.head ≡ whole.head → ready.view.index ≡ whole.index → IsMountedBeside views made (Ready ready) d }
 {}

@@ -14,7 +14,7 @@ pub returns-clause-crash : goal.returns-clause-crash
 returns-clause-crash c = mount-crashed
 
 pub returns-clause-ready : goal.returns-clause-ready
-returns-clause-ready c = λ views made view d is. is
+returns-clause-ready c = λ views made ready d is. is
 
 pub returns-clause-refused : goal.returns-clause-refused
 returns-clause-refused c = mount-refused
