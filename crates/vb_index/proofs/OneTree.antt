@@ -74,7 +74,7 @@ alike-same (x ∷ xs) (y ∷ ys) ordered ordered' alike =
 
 -- ---- the look-ups in trees of the same nodes
 
-root-none : (tree es : List TreeEntry) (p : List (List ℕ)) → AllBelongIn tree es → is_root p ≡ true → entry_at p es ≡ None
+pub root-none : (tree es : List TreeEntry) (p : List (List ℕ)) → AllBelongIn tree es → is_root p ≡ true → entry_at p es ≡ None
 root-none tree [] p all h = refl
 root-none tree (e ∷ es) p all h =
     found-later e es p (elim (cases_Bool (same_path p e.path)) [

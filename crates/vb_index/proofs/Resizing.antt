@@ -215,14 +215,14 @@ page_in nodes slot page h = by (refs_at nodes slot) refl where
       let refs : refs_at nodes slot ≡ Some file.0.refs = ap (option_and_then refs_of) file.1 ∙ ap (λ v. cond v (Some file.0.refs) None) file.2 in
       (file.0, file.1, omega (arith, ap (λ rs. length (unwrap_or rs [])) refs))
 
-no_folder : (nodes : List (Option Held)) (slot : ℕ) (held : Held) → IsTable nodes → held_at nodes slot ≡ Some held → is_file_node held.node.kind ≡ true → holds_folder (held_at nodes slot) ≡ false
+pub no_folder : (nodes : List (Option Held)) (slot : ℕ) (held : Held) → IsTable nodes → held_at nodes slot ≡ Some held → is_file_node held.node.kind ≡ true → holds_folder (held_at nodes slot) ≡ false
 no_folder nodes slot held table e file = ap holds_folder e ∙ (elim (cases_Bool (is_folder_node held.node.kind)) [
   | inr h ↦ h
   | inl h ↦ absurd (false≢true (sym (ap not h) ∙ sym (table.fits slot held e).either ∙ file))
 ])
 
 -- a file's path isn't the root
-file_below : (nodes : List (Option Held)) (path : List (List ℕ)) (slot : ℕ) (held : Held) → IsTable nodes → slot_at nodes path ≡ Some slot → held_at nodes slot ≡ Some held → is_file_node held.node.kind ≡ true → is_root path ≡ false
+pub file_below : (nodes : List (Option Held)) (path : List (List ℕ)) (slot : ℕ) (held : Held) → IsTable nodes → slot_at nodes path ≡ Some slot → held_at nodes slot ≡ Some held → is_file_node held.node.kind ≡ true → is_root path ≡ false
 file_below nodes [] slot held table at e file = absurd (
     let both : Some 0 ≡ Some slot = at in
     let is : 0 ≡ slot = cc in
@@ -230,7 +230,7 @@ file_below nodes [] slot held table at e file = absurd (
 file_below nodes (part ∷ parts) slot held table at e file = root-not (part ∷ parts) (omega arith)
 
 -- the entry of a file in a tree of that shape
-entry-file : (nodes : List (Option Held)) (tree : List TreeEntry) (path : List (List ℕ)) (slot : ℕ) (held : Held) → HasShapeOf nodes tree → is_root path ≡ false → slot_at nodes path ≡ Some slot → held_at nodes slot ≡ Some held → (e : TreeEntry) × (entry_at path tree ≡ Some e) × (shape_of_entry e ≡ shape_of held)
+pub entry-file : (nodes : List (Option Held)) (tree : List TreeEntry) (path : List (List ℕ)) (slot : ℕ) (held : Held) → HasShapeOf nodes tree → is_root path ≡ false → slot_at nodes path ≡ Some slot → held_at nodes slot ≡ Some held → (e : TreeEntry) × (entry_at path tree ≡ Some e) × (shape_of_entry e ≡ shape_of held)
 entry-file nodes tree path slot held shape below at e =
     let split = path-split path (has_parts path below) in
     let found = entry-held nodes tree (parent_of path) (name_of path) slot held shape (ap (slot_at nodes) (sym split) ∙ at) e in

@@ -1,0 +1,6 @@
+mod Carries
+mod Causes
+mod Dues
+mod OneSlot
+mod Ranges
+mod Reading

@@ -1,0 +1,4 @@
+pub mod Files
+pub mod Needs
+pub mod Performs
+pub mod Views

@@ -1,0 +1,109 @@
+-- Which pages an operation needs, and when a page that it needs is damaged.
+use Rattle.std.specs.Prelude.{◌≡◌, ◌⊎◌, ℕ, ◌+◌, ◌/◌, ◌<◌, ◌≤◌, List, length, Option, Some, IsSome}
+use Rattle.vb_block.specs.declared.digest.Ref.{Ref}
+use Rattle.vb_disk.specs.States.{DiskState}
+use Rattle.vb_pages.specs.declared.page_error.PageError.{PageError}
+use Rattle.vb_pages.specs.declared.page_error.PageError.TheVariants.{Damaged, DiskFault, Memory}
+use Rattle.vb_pages.specs.Reads.{IsDamageOf}
+use Rattle.vb_tree.specs.declared.operation.Op.{Op}
+use Rattle.vb_tree.specs.declared.operation.Op.TheVariants.{Create, MakeDir, Write, Truncate, Rename, Remove, RemoveDir, Read, List as Listing, Stat}
+use Rattle.vb_index.specs.Nodes.{slot_at}
+use Rattle.vb_active.specs.Files.{IsFileOf}
+use Rattle.vb_active.specs.Views.{ActiveState, Backs, IsOut}
+
+-- a page of a file of this length has a byte that is asked for
+pub record HasAsked (offset count len page : ℕ) : Type 0 where
+  pub byte : ℕ
+  pub here : byte / 4096 ≡ page
+  pub in_file : byte < len
+  pub from : offset ≤ byte
+  pub to : byte < offset + count
+
+-- a page of a file of this length has a byte that stays while others there are written over
+pub record HasUntouched (offset count len page : ℕ) : Type 0 where
+  pub byte : ℕ
+  pub here : byte / 4096 ≡ page
+  pub in_file : byte < len
+  pub stays : (byte < offset) ⊎ (offset + count ≤ byte)
+  pub written : ℕ
+  pub also_here : written / 4096 ≡ page
+  pub from : offset ≤ written
+  pub to : written < offset + count
+
+-- a page of a file of this length has a byte that stays while others there are cut away
+pub record HasUncut (kept len page : ℕ) : Type 0 where
+  pub byte : ℕ
+  pub here : byte / 4096 ≡ page
+  pub stays : byte < kept
+  pub cut : ℕ
+  pub also_here : cut / 4096 ≡ page
+  pub from : kept ≤ cut
+  pub in_file : cut < len
+
+-- an operation needs a page of a file of this length
+abbrev pub NeedsPage : Op → ℕ → ℕ → Type 0
+NeedsPage (Create path) len page = ⊥
+NeedsPage (MakeDir path) len page = ⊥
+NeedsPage (Write path offset bytes) len page = HasUntouched offset (length bytes) len page
+NeedsPage (Truncate path kept) len page = HasUncut kept len page
+NeedsPage (Rename source target) len page = ⊥
+NeedsPage (Remove path) len page = ⊥
+NeedsPage (RemoveDir path) len page = ⊥
+NeedsPage (Read path offset count) len page = HasAsked offset count len page
+NeedsPage (Listing path) len page = ⊥
+NeedsPage (Stat path) len page = ⊥
+
+-- a page that isn't in the table is damaged so: the place and the digest that is due are its reference's, and where the
+-- disk backs the view, its place is hurt
+pub record IsDamageAt (told : Option DiskState) (view : ActiveState) (slot page : ℕ) (place : ℕ) (kept found : List ℕ) : Type 0 where
+  pub reference : Ref
+  pub out : IsOut view slot page reference
+  pub named : IsDamageOf reference place kept found
+  pub hurt : (d : DiskState) → told ≡ Some d → Backs d view → IsSome (d.cells place).hurt
+
+-- damage is that of a page of this slot and number
+abbrev pub IsErrorAt : Option DiskState → ActiveState → ℕ → ℕ → PageError → Type 0
+IsErrorAt told view slot page (Damaged place kept found) = IsDamageAt told view slot page place kept found
+IsErrorAt told view slot page DiskFault = Unit {0}
+IsErrorAt told view slot page Memory = Unit {0}
+
+-- damage is that of a page of this slot with one of the bytes from here to there
+pub record IsDamageIn (told : Option DiskState) (view : ActiveState) (slot start end : ℕ) (place : ℕ) (kept found : List ℕ) : Type 0 where
+  pub byte : ℕ
+  pub from : start ≤ byte
+  pub to : byte < end
+  pub damage : IsDamageAt told view slot (byte / 4096) place kept found
+
+-- an error of a read of these bytes
+abbrev pub IsErrorIn : Option DiskState → ActiveState → ℕ → ℕ → ℕ → PageError → Type 0
+IsErrorIn told view slot start end (Damaged place kept found) = IsDamageIn told view slot start end place kept found
+IsErrorIn told view slot start end DiskFault = Unit {0}
+IsErrorIn told view slot start end Memory = Unit {0}
+
+-- the path of the file whose pages an operation needs
+abbrev pub path_of_pages : Op → List (List ℕ)
+path_of_pages (Create path) = path
+path_of_pages (MakeDir path) = path
+path_of_pages (Write path offset bytes) = path
+path_of_pages (Truncate path kept) = path
+path_of_pages (Rename source target) = source
+path_of_pages (Remove path) = path
+path_of_pages (RemoveDir path) = path
+path_of_pages (Read path offset count) = path
+path_of_pages (Listing path) = path
+path_of_pages (Stat path) = path
+
+-- an operation's damage is that of a page which it needs, of the file at its path
+pub record IsDamageOn (told : Option DiskState) (view : ActiveState) (op : Op) (place : ℕ) (kept found : List ℕ) : Type 0 where
+  pub slot : ℕ
+  pub len : ℕ
+  pub page : ℕ
+  pub file : IsFileOf view.index.nodes (path_of_pages op) slot len
+  pub needed : NeedsPage op len page
+  pub damage : IsDamageAt told view slot page place kept found
+
+-- an operation's error: damage is that of a page which it needs
+abbrev pub IsErrorOn : Option DiskState → ActiveState → Op → PageError → Type 0
+IsErrorOn told view op (Damaged place kept found) = IsDamageOn told view op place kept found
+IsErrorOn told view op DiskFault = Unit {0}
+IsErrorOn told view op Memory = Unit {0}

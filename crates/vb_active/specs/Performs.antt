@@ -1,0 +1,30 @@
+-- What an operation answers on a live view, and what it leaves.
+use Rattle.std.specs.Prelude.{◌≡◌, ℕ, List, Option, Some, IfOk, IfErr, OnErr, Result}
+use Rattle.vb_disk.specs.States.{DiskState}
+use Rattle.vb_index.specs.Contents.{HasTree}
+use Rattle.vb_pages.specs.declared.page_error.PageError.{PageError}
+use Rattle.vb_tree.specs.declared.operation.Op.{Op}
+use Rattle.vb_tree.specs.declared.reply.Reply.{Reply}
+use Rattle.vb_tree.specs.declared.tree.TreeEntry.{TreeEntry}
+use Rattle.vb_tree.specs.Operations.{reply_of, tree_after}
+use Rattle.vb_active.specs.Needs.{IsErrorOn}
+use Rattle.vb_active.specs.Views.{ActiveState, Backs, StaysOut, due_page}
+
+-- a view has a tree, with the pages of a disk
+abbrev pub HasTreeOn : DiskState → ActiveState → List TreeEntry → Type 0
+HasTreeOn d view tree = HasTree view.index.nodes (due_page view d) tree
+
+-- the reply is the plain tree's, and the view has the tree that the plain tree would have
+pub record Plays (d : DiskState) (old new : ActiveState) (op : Op) (tree : List TreeEntry) (answer : Reply) : Type 0 where
+  pub said : answer ≡ reply_of old.index.limits tree op
+  pub leaves : HasTreeOn d new (tree_after old.index.limits tree op)
+
+-- what an operation on a view gives, where the disk tells this. For each tree that the view has, it answers and leaves what
+-- the plain tree would; an error leaves an equal view, and damage is that of a page which the operation needs; the limits
+-- stay, and so does each page that isn't in the table afterwards.
+pub record Performs (told : Option DiskState) (old new : ActiveState) (op : Op) (result : Result Reply PageError) : Type 0 where
+  pub played : (d : DiskState) (tree : List TreeEntry) → told ≡ Some d → Backs d old → HasTreeOn d old tree → IfOk result (Plays d old new op tree)
+  pub kept : OnErr result (new ≡ old)
+  pub damage : IfErr result (IsErrorOn told old op)
+  pub limits : new.index.limits ≡ old.index.limits
+  pub out : StaysOut old new

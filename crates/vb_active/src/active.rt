@@ -1,0 +1,71 @@
+// The live view: an index, and a table of the pages that were written since the last commit.
+ghost use Rattle.std.specs.Prelude.{◌≡◌, [], IsSome, Some};
+ghost use Rattle.vb_pages.specs.Tables.{kept_page, Forgets};
+ghost use Rattle.vb_index.specs.declared.held.Held.{Held};
+ghost use Rattle.vb_index.specs.Changes.{with_ref};
+ghost use Rattle.vb_index.specs.Nodes.{held_at};
+ghost use Rattle.std.specs.Prelude.{slice_set};
+ghost use Rattle.vb_active.specs.Views.{KeepsFiles};
+
+use std::alloc::Global;
+use std::marker::Model;
+use vb_index::{Index, Ref};
+use vb_pages::PageTable;
+
+/// A folder between two commits: its index, and the pages of its files that were written since the last one. Contracts
+/// see both.
+#[derive(Drop)]
+pub struct Active {
+    pub(crate) index: Index,
+    pub(crate) table: PageTable,
+}
+
+impl Model for Active {
+    ghost use Rattle.vb_active.specs.Views.{ActiveState, KeepsFiles};
+
+    ghost Value = { ActiveState };
+
+    ghost view = { λ a. record { index = a.index; pages = a.table } };
+
+    ghost invariant = { λ a. KeepsFiles a.index.nodes a.table };
+}
+
+impl Active {
+    /// The view of an index none of whose pages is in memory. It takes no memory.
+    pub fn of(alloc: Global, index: Index) -> Active
+        ensures { result ≡ record { index = index; pages = [] } }
+    {
+        Active {
+            index,
+            table: PageTable::new(alloc),
+        }
+    }
+
+    /// The index: the limits and the nodes.
+    pub fn index(&self) -> &Index
+        ensures { result.now ≡ self.now.index }
+    {
+        &self.index
+    }
+
+    /// The pages that are in memory.
+    pub fn pages(&self) -> &PageTable
+        ensures pages { result.now ≡ self.now.pages }
+        ensures files { KeepsFiles self.now.index.nodes self.now.pages }
+    {
+        &self.table
+    }
+
+    /// Notes where a page of the table stands now, and forgets the page. It takes no memory.
+    pub fn settle(&mut self, slot: u32, page: u32, reference: Ref)
+        requires { IsSome (kept_page self.old.pages slot page) }
+        ensures index { (held : Held) × (held_at self.old.index.nodes slot ≡ Some held)
+            × (self.new.index ≡ record self.old.index {
+              nodes = slice_set self.old.index.nodes slot (Some (with_ref page reference held));
+            }) }
+        ensures pages { Forgets self.old.pages self.new.pages slot page }
+    {
+        self.index.set_ref(slot, page, reference);
+        self.table.forget(slot, page);
+    }
+}
