@@ -1,6 +1,10 @@
 mod Carries
 mod Causes
+mod Changed
 mod Dues
+mod Looking
 mod OneSlot
 mod Ranges
 mod Reading
+mod Replaced
+mod Written

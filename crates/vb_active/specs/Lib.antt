@@ -1,4 +1,5 @@
 pub mod Files
 pub mod Needs
 pub mod Performs
+pub mod Replacing
 pub mod Views

@@ -107,3 +107,15 @@ abbrev pub IsErrorOn : Option DiskState → ActiveState → Op → PageError →
 IsErrorOn told view op (Damaged place kept found) = IsDamageOn told view op place kept found
 IsErrorOn told view op DiskFault = Unit {0}
 IsErrorOn told view op Memory = Unit {0}
+
+-- damage of a page of which a byte stays while others there are written over
+pub record IsDamageUnder (told : Option DiskState) (view : ActiveState) (slot offset count len : ℕ) (place : ℕ) (kept found : List ℕ) : Type 0 where
+  pub page : ℕ
+  pub needed : HasUntouched offset count len page
+  pub damage : IsDamageAt told view slot page place kept found
+
+-- an error of a write of so many bytes into a file of this length
+abbrev pub IsErrorUnder : Option DiskState → ActiveState → ℕ → ℕ → ℕ → ℕ → PageError → Type 0
+IsErrorUnder told view slot offset count len (Damaged place kept found) = IsDamageUnder told view slot offset count len place kept found
+IsErrorUnder told view slot offset count len DiskFault = Unit {0}
+IsErrorUnder told view slot offset count len Memory = Unit {0}

@@ -1,10 +1,11 @@
 // Files by their paths.
-ghost use Rattle.std.specs.Prelude.{◌≡◌, true, List, Option, Some, None, IfOk, IfErr};
+ghost use Rattle.std.specs.Prelude.{◌≡◌, ◌≤◌, true, List, Option, Some, None, IfOk, IfErr};
 ghost use Rattle.std.specs.Option.{option_or};
 ghost use Rattle.std.specs.Result.{result_err};
 ghost use Rattle.vb_tree.specs.declared.reply.Refusal.{Refusal};
 ghost use Rattle.vb_tree.specs.declared.reply.Refusal.TheVariants as refusals;
 ghost use Rattle.vb_tree.specs.declared.tree.TreeEntry.{TreeEntry};
+ghost use Rattle.vb_tree.specs.Trees.{data_pages_of, longest_file};
 ghost use Rattle.vb_tree.specs.Refusals.{refuse_unless_file};
 ghost use Rattle.vb_index.specs.declared.held.Held.{Held};
 ghost use Rattle.vb_index.specs.Indexes.{HasShapeOf};
@@ -18,6 +19,14 @@ use vb_index::{Index, NodeKind, Path, Refusal};
 pub(crate) struct FoundFile {
     pub slot: u32,
     pub length: u64,
+}
+
+/// How many pages a file of this length has.
+pub(crate) fn pages_of(length: u64) -> u32
+    requires { length ≤ longest_file }
+    ensures { result ≡ data_pages_of length }
+{
+    length.div_ceil(4096) as u32
 }
 
 // How long the file in a slot is.

@@ -3,8 +3,12 @@
 #![tactic(auto)]
 
 mod active;
+mod entries;
 mod files;
+mod looks;
+mod patches;
 mod pieces;
+mod placing;
 mod reads;
 
 pub use active::Active;
