@@ -4,7 +4,9 @@ mod Changed
 mod Dues
 mod Looking
 mod OneSlot
+mod Overwriting
 mod Ranges
 mod Reading
 mod Replaced
+mod Rewritten
 mod Written

@@ -119,3 +119,15 @@ abbrev pub IsErrorUnder : Option DiskState → ActiveState → ℕ → ℕ → �
 IsErrorUnder told view slot offset count len (Damaged place kept found) = IsDamageUnder told view slot offset count len place kept found
 IsErrorUnder told view slot offset count len DiskFault = Unit {0}
 IsErrorUnder told view slot offset count len Memory = Unit {0}
+
+-- damage of a page of which a byte stays while others there are cut away
+pub record IsDamageBelow (told : Option DiskState) (view : ActiveState) (slot kept_bytes len : ℕ) (place : ℕ) (kept found : List ℕ) : Type 0 where
+  pub page : ℕ
+  pub needed : HasUncut kept_bytes len page
+  pub damage : IsDamageAt told view slot page place kept found
+
+-- an error of a truncate to so many bytes of a file of this length
+abbrev pub IsErrorBelow : Option DiskState → ActiveState → ℕ → ℕ → ℕ → PageError → Type 0
+IsErrorBelow told view slot kept_bytes len (Damaged place kept found) = IsDamageBelow told view slot kept_bytes len place kept found
+IsErrorBelow told view slot kept_bytes len DiskFault = Unit {0}
+IsErrorBelow told view slot kept_bytes len Memory = Unit {0}

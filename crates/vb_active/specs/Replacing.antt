@@ -29,6 +29,12 @@ IsBase offset end page old base = (base ≡ page_of old page)
 -- that it touches
 pub record IsSpan (offset count pages first last : ℕ) : Type 0 where
   pub order : first ≤ last
-  pub none : count ≡ 0 → first ≡ last
+  pub none : count ≡ 0 → last ≡ 0
   pub from : 0 < count → first ≡ min pages (offset / 4096)
   pub to : 0 < count → last ≡ data_pages_of (offset + count)
+
+-- which pages a truncate leaves in the table: where there are more, all new ones, and outside of them those that stay whole
+pub record IsRow (long len first : ℕ) (run : List (List ℕ)) : Type 0 where
+  pub within : first + length run ≤ data_pages_of len
+  pub grown : data_pages_of long < data_pages_of len → (first ≡ data_pages_of long) × (first + length run ≡ data_pages_of len)
+  pub whole : (k : ℕ) → k < data_pages_of len → (k < first) ⊎ (first + length run ≤ k) → (long ≤ len) ⊎ (4096 * k + 4096 ≤ len)

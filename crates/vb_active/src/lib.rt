@@ -10,6 +10,8 @@ mod patches;
 mod pieces;
 mod placing;
 mod reads;
+mod truncates;
+mod writes;
 
 pub use active::Active;
 pub use vb_disk::Disk;
