@@ -1,6 +1,7 @@
 mod Carries
 mod Causes
 mod Changed
+mod Cutting
 mod Dues
 mod Looking
 mod OneSlot

@@ -5,12 +5,17 @@ ghost use Rattle.vb_index.specs.declared.held.Held.{Held};
 ghost use Rattle.vb_index.specs.Changes.{with_ref};
 ghost use Rattle.vb_index.specs.Nodes.{held_at};
 ghost use Rattle.std.specs.Prelude.{slice_set};
-ghost use Rattle.vb_active.specs.Views.{KeepsFiles};
+ghost use Rattle.vb_cause.specs.Causes.{HasCause, UsesFailures};
+ghost use Rattle.vb_tree.specs.Operations.{IsInRange};
+ghost use Rattle.vb_active.specs.Performs.{Performs};
+ghost use Rattle.vb_active.specs.Views.{KeepsFiles, LiesBelow};
 
+use crate::{Op, Reply};
 use std::alloc::Global;
 use std::marker::Model;
-use vb_index::{Index, Ref};
-use vb_pages::PageTable;
+use vb_disk::Disk;
+use vb_index::{Index, Kind, Ref};
+use vb_pages::{PageError, PageTable};
 
 /// A folder between two commits: its index, and the pages of its files that were written since the last one. Contracts
 /// see both.
@@ -67,5 +72,39 @@ impl Active {
     {
         self.index.set_ref(slot, page, reference);
         self.table.forget(slot, page);
+    }
+
+    /// Performs an operation as the plain tree does. It reads the pages that it needs and that aren't in memory, and
+    /// neither writes nor syncs. The places of those that aren't in memory have to lie below the size that the disk was
+    /// seen to have.
+    pub fn perform<D: Disk>(&mut self, alloc: Global, disk: &mut D, op: &Op) -> Result<Reply, PageError>
+        requires range { IsInRange op.now }
+        requires below { LiesBelow (D.seen disk.old) self.old }
+        ensures performs { Performs (D.told disk.old) self.old self.new op.now result }
+        ensures told { D.told disk.new ≡ D.told disk.old }
+        ensures seen { D.seen disk.new ≡ D.seen disk.old }
+        ensures cause { HasCause PageError.DiskFault (D.faults disk.old) (D.faults disk.new) result }
+        ensures left { UsesFailures PageError.DiskFault (D.failures_left disk.old) (D.failures_left disk.new) result }
+    {
+        match op {
+            Op::Create { path } => self.make(alloc, path, Kind::File),
+            Op::MakeDir { path } => self.make(alloc, path, Kind::Folder),
+            Op::Write {
+                path,
+                offset,
+                bytes,
+            } => self.write(alloc, disk, path, *offset, bytes.slice()),
+            Op::Truncate { path, length } => self.truncate(alloc, disk, path, *length),
+            Op::Rename { source, target } => self.rename(alloc, source, target),
+            Op::Remove { path } => self.remove(path, Kind::File),
+            Op::RemoveDir { path } => self.remove(path, Kind::Folder),
+            Op::Read {
+                path,
+                offset,
+                length,
+            } => self.read(alloc, disk, path, *offset, *length),
+            Op::List { path } => self.list(alloc, path),
+            Op::Stat { path } => Ok(self.stat(path)),
+        }
     }
 }

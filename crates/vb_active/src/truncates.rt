@@ -111,7 +111,10 @@ impl Active {
             return Ok(Row { first: after, pages });
         }
         let first = (len / 4096) as u32;
-        let page = self.cut_page(alloc, disk, file.slot, first, kept as usize)?;
+        let page = match self.cut_page(alloc, disk, file.slot, first, kept as usize) {
+            Err(error) => return Err(error),
+            Ok(page) => page,
+        };
         let pages = one_page(alloc, page)?;
         Ok(Row { first, pages })
     }
