@@ -1,5 +1,5 @@
 // Operations that make, move and remove entries. They need no page.
-ghost use Rattle.std.specs.Prelude.{◌≡◌, Option};
+ghost use Rattle.std.specs.Prelude.{◌≡◌, Option, IsErrOf};
 ghost use Rattle.vb_disk.specs.States.{DiskState};
 ghost use Rattle.vb_tree.specs.declared.operation.Op.{Op};
 ghost use Rattle.vb_index.specs.Changes.{removal_of};
@@ -32,7 +32,8 @@ fn forget_file(table: &mut PageTable, slot: Option<u32>)
 impl Active {
     /// Makes an empty file, or a folder without entries.
     pub(crate) fn make(&mut self, alloc: Global, path: &Path, kind: Kind) -> Result<Reply, PageError>
-        ensures { (told : Option DiskState) → Performs told self.old self.new (making_of kind path.now) result }
+        ensures performs { (told : Option DiskState) → Performs told self.old self.new (making_of kind path.now) result }
+        ensures no_fault { IsErrOf result PageError.DiskFault → ⊥ }
     {
         match self.index.add(alloc, path, kind) {
             Ok(_) => {
@@ -45,7 +46,8 @@ impl Active {
 
     /// Removes a file with its pages, or a folder without entries.
     pub(crate) fn remove(&mut self, path: &Path, kind: Kind) -> Result<Reply, PageError>
-        ensures { (told : Option DiskState) → Performs told self.old self.new (removal_of kind path.now) result }
+        ensures performs { (told : Option DiskState) → Performs told self.old self.new (removal_of kind path.now) result }
+        ensures no_fault { IsErrOf result PageError.DiskFault → ⊥ }
     {
         match self.index.detach(path, kind) {
             Ok(slot) => {
@@ -59,7 +61,8 @@ impl Active {
 
     /// Moves what stands at the source to the target. The pages of a file that stood there are forgotten.
     pub(crate) fn rename(&mut self, alloc: Global, source: &Path, target: &Path) -> Result<Reply, PageError>
-        ensures { (told : Option DiskState) → Performs told self.old self.new (Op.Rename source.now target.now) result }
+        ensures performs { (told : Option DiskState) → Performs told self.old self.new (Op.Rename source.now target.now) result }
+        ensures no_fault { IsErrOf result PageError.DiskFault → ⊥ }
     {
         match self.index.rename(alloc, source, target) {
             Ok(replaced) => {

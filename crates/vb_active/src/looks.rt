@@ -1,5 +1,5 @@
 // Operations that look at the index alone.
-ghost use Rattle.std.specs.Prelude.{◌≡◌, ℕ, List, Option, Some, map, IfOk, Ok};
+ghost use Rattle.std.specs.Prelude.{◌≡◌, ℕ, List, Option, Some, map, IfOk, IsErrOf, Ok};
 ghost use Rattle.std.specs.Option.{option_or};
 ghost use Rattle.std.specs.Result.{result_err};
 ghost use Rattle.vb_disk.specs.States.{DiskState};
@@ -94,7 +94,8 @@ fn info_of(index: &Index, slot: u32) -> Reply
 impl Active {
     /// The names of a folder's entries.
     pub(crate) fn list(&self, alloc: Global, path: &Path) -> Result<Reply, PageError>
-        ensures { (told : Option DiskState) → Performs told self.now self.now (Op.List path.now) result }
+        ensures performs { (told : Option DiskState) → Performs told self.now self.now (Op.List path.now) result }
+        ensures no_fault { IsErrOf result PageError.DiskFault → ⊥ }
     {
         match find_folder(&self.index, path) {
             Err(reason) => Ok(Reply::Refused(reason)),

@@ -9,8 +9,8 @@ use Rattle.vb_active.proofs.Changed.{made-performs, unmade-performs}
 use Rattle.vb_active.proofs.active.Active.make.Goals as goal
 use Rattle.vb_active.proofs.active.Active.make.Goals.{in-Ok, in-Err}
 
-pub returns : goal.returns
-returns c = λ told.
+pub returns-clause-performs : goal.returns-clause-performs
+returns-clause-performs c = λ told.
     let old = c.self.inside in
     let new : ActiveState = record { index = c.add.new.self; pages = old.table } in
     let P : Result Reply PageError → Type 0 = λ r. Performs told c.args.self.now new (making_of c.args.kind c.args.path.now) r in
