@@ -1,5 +1,5 @@
 // The live view: an index, and a table of the pages that were written since the last commit.
-ghost use Rattle.std.specs.Prelude.{◌≡◌, [], IsSome, Some};
+ghost use Rattle.std.specs.Prelude.{◌≡◌, ◌<◌, ℕ, [], IsSome, Some};
 ghost use Rattle.vb_pages.specs.Tables.{kept_page, Forgets};
 ghost use Rattle.vb_index.specs.declared.held.Held.{Held};
 ghost use Rattle.vb_index.specs.Changes.{with_ref};
@@ -69,6 +69,7 @@ impl Active {
               nodes = slice_set self.old.index.nodes slot (Some (with_ref page reference held));
             }) }
         ensures pages { Forgets self.old.pages self.new.pages slot page }
+        ensures below { (size : ℕ) → reference.place < size → LiesBelow size self.old → LiesBelow size self.new }
     {
         self.index.set_ref(slot, page, reference);
         self.table.forget(slot, page);
