@@ -18,3 +18,6 @@ pub use vb_disk::Disk;
 pub use vb_index::{Index, Ref};
 pub use vb_pages::{PageError, PageTable};
 pub use vb_tree::{Op, Refusal, Reply};
+
+#[cfg(test)]
+mod tests;
