@@ -1,4 +1,5 @@
 pub mod Built
+pub mod GivenPages
 pub mod Places
 pub mod Sourced
 pub mod Trees

@@ -10,3 +10,6 @@ mod sources;
 pub use entry::FrozenEntry;
 pub use frozen::Frozen;
 pub use order::Order;
+
+#[cfg(test)]
+mod tests;

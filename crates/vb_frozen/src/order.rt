@@ -39,11 +39,11 @@ impl Model for Order {
 }
 
 impl Order {
-    ghost use Rattle.std.specs.Prelude.{◌≡◌, ◌<◌, List, Some, length, slice_get, IfOk};
+    ghost use Rattle.std.specs.Prelude.{◌≡◌, ◌<◌, List, Some, length, slice_get, option_copied, IfOk};
     ghost use Rattle.vb_tree.specs.declared.tree.TreeEntry.{TreeEntry};
     ghost use Rattle.vb_tree.specs.Trees.{IsTree};
     ghost use Rattle.vb_index.specs.Indexes.{HasShapeOf};
-    ghost use Rattle.vb_frozen.specs.Orders.{order_of, refs_in, with_reference, AreShort};
+    ghost use Rattle.vb_frozen.specs.Orders.{entry_in, order_of, refs_in, with_reference, AreShort};
 
     /// The entries of an index, in one pass. It says nothing of an index that has no tree.
     pub fn of(alloc: Global, index: &Index) -> Result<Order, AllocError>
@@ -72,6 +72,13 @@ impl Order {
         ensures { slice_get self.now i ≡ Some result.now }
     {
         &self.entries[i]
+    }
+
+    /// The entry of a slot, None where there is none.
+    pub fn find(&self, slot: u32) -> Option<&FrozenEntry>
+        ensures { option_copied result ≡ entry_in self.now slot }
+    {
+        entry_of(&self.entries, &self.places, slot)
     }
 
     /// All entries in path order.
