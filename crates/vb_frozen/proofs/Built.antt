@@ -1,7 +1,8 @@
 -- What is put behind an order is the next entry of the tree, since each entry's folder stands before it.
-use Rattle.std.proofs.Common.{◌≡◌, ℕ, ◌+◌, ◌-◌, ◌<◌, ◌≤◌, Bool, true, false, cond, eqb, List, [], ◌∷◌, ◌++◌, length, map, take, drop, get_or, Option, Some, None, unwrap_or, ◌⊎◌, inl, inr, refl, sym, ap, subst, ◌∙◌, arith, length-append, append_assoc, slice_get, zero, suc}
+use Rattle.std.proofs.Common.{◌≡◌, ◌≢◌, ℕ, ◌+◌, ◌-◌, ◌<◌, ◌≤◌, true, false, cond, eqb, List, [], ◌∷◌, ◌++◌, length, map, take, Option, Some, None, unwrap_or, ◌⊎◌, inl, inr, refl, sym, ap, subst, ◌∙◌, arith, length-append, append_assoc, slice_get, zero, suc}
 use Rattle.std.specs.Option.{option_map, option_and_then}
-use Rattle.std.specs.List.{find}
+use Rattle.std.specs.List.{find, All}
+use Rattle.std.proofs.lemmas.List.Elements.{All-cons, All-nil}
 use Rattle.std.specs.Ordering.{is_eq, ordering_then}
 use Rattle.std.specs.declared.cmp.Ordering.TheVariants.{Less}
 use Rattle.std.proofs.lemmas.List.{length-map, map-append}
@@ -9,13 +10,12 @@ use Rattle.std.proofs.lemmas.Bool.{cases_Bool, false≢true}
 use Rattle.std.proofs.lemmas.Bool.Decides.{Decides-eqb}
 use Rattle.vb_path.specs.Paths.{same_path, path_cmp}
 use Rattle.vb_path.proofs.PathLaws.{path_cmp-total, same_path-Decides, same_path-ties}
-use Rattle.vb_tree.specs.declared.tree.Kind.{Kind}
 use Rattle.vb_tree.specs.declared.tree.Kind.TheVariants.{Folder}
 use Rattle.vb_tree.specs.declared.tree.TreeEntry.{TreeEntry}
 use Rattle.vb_tree.specs.Trees.{is_root, entry_at, kind_at, parent_of, name_of, AllAfter, AreInOrder, AllBelongIn, BelongsIn, IsTree}
 use Rattle.vb_index.specs.declared.held.Held.{Held}
-use Rattle.vb_index.specs.Nodes.{held_at, is_child, child_of, slot_at, kind_of, refs_of, refs_at, slot_below, IsTable}
-use Rattle.vb_index.specs.Indexes.{Shape, shape_of, shape_of_entry, shape_at, shape_in, HasShapeOf}
+use Rattle.vb_index.specs.Nodes.{held_at, is_child, child_of, slot_at, refs_of, refs_at, IsTable}
+use Rattle.vb_index.specs.Indexes.{Shape, shape_of, shape_of_entry, shape_at, HasShapeOf}
 use Rattle.vb_index.specs.Listings.{paths_of, AreInPathOrder}
 use Rattle.vb_index.proofs.Ascending.{In, of-append}
 use Rattle.vb_index.proofs.ChildLaws.{is_child-parts, child_of-Some}
@@ -25,7 +25,7 @@ use Rattle.vb_index.proofs.Newness.{has_parts}
 use Rattle.vb_index.proofs.Tables.{table-forest}
 use Rattle.vb_index.proofs.Walks.{IsForest, walk-snoc, walk-alone}
 use Rattle.vb_frozen.specs.declared.entry.FrozenEntry.{FrozenEntry}
-use Rattle.vb_frozen.specs.Orders.{slot_of, entry_for, order_of, path_in, entry_below}
+use Rattle.vb_frozen.specs.Orders.{slot_of, entry_for, order_of, path_in, entry_below, AreApart}
 
 -- ---- the order of paths
 
@@ -255,3 +255,23 @@ pub all-grown : (nodes : List (Option Held)) (tree : List TreeEntry) (slots : Li
 all-grown nodes tree slots entries i order end was =
     let sizes : length slots ≡ length tree + 1 = omega (arith, length-map slots (λ (s : ℕ). Some s), ap length order, length-map tree (λ (e : TreeEntry). e.path), length-map (paths_of tree) (slot_at nodes)) in
     was ∙ ap (order_of nodes) (take_past tree (i - 1) (omega (arith, sizes, end)))
+
+-- ---- no two entries of a tree have one slot
+
+slots-after : (nodes : List (Option Held)) (e : TreeEntry) (es : List TreeEntry) → IsForest (child_of nodes) → AllLead nodes (e ∷ es) → AllAfter e.path es → All (λ (f : FrozenEntry). f.slot ≢ slot_of nodes e.path) (order_of nodes es)
+slots-after nodes e [] forest lead after = All-nil (λ (f : FrozenEntry). f.slot ≢ slot_of nodes e.path)
+slots-after nodes e (x ∷ xs) forest lead after =
+    All-cons (λ (f : FrozenEntry). f.slot ≢ slot_of nodes e.path) (entry_for nodes x) (order_of nodes xs)
+    (λ same.
+    let there : slot_at nodes x.path ≡ Some (slot_of nodes x.path) = lead.1.0.1 ∙ ap (λ (k : ℕ). Some k) (sym (ap (λ o. unwrap_or o 0) lead.1.0.1)) in
+    let here : slot_at nodes e.path ≡ Some (slot_of nodes e.path) = lead.0.1 ∙ ap (λ (k : ℕ). Some k) (sym (ap (λ o. unwrap_or o 0) lead.0.1)) in
+    let path : x.path ≡ e.path = walk-alone (child_of nodes) forest x.path e.path (slot_of nodes e.path) (there ∙ ap (λ (k : ℕ). Some k) same) here in
+    not_before e.path (subst (λ p. path_cmp e.path p ≡ Less) path after.0))
+    (slots-after nodes e xs forest (lead.0, lead.1.1) after.1)
+
+slots-apart : (nodes : List (Option Held)) (es : List TreeEntry) → IsForest (child_of nodes) → AllLead nodes es → AreInOrder es → AreApart (order_of nodes es)
+slots-apart nodes [] forest lead order = tt
+slots-apart nodes (e ∷ es) forest lead order = (slots-after nodes e es forest lead order.0, slots-apart nodes es forest lead.1 order.1)
+
+pub order-apart : (nodes : List (Option Held)) (tree : List TreeEntry) → IsTable nodes → IsTree tree → HasShapeOf nodes tree → AreApart (order_of nodes tree)
+order-apart nodes tree table is shape = slots-apart nodes tree (table-forest nodes table) (tree-leads nodes tree is shape) is.in_order

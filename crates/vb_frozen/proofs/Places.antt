@@ -1,13 +1,12 @@
 -- The first entry of a slot: where it stands, and what a change of it changes.
 use Rattle.std.proofs.Common.{◌≡◌, ℕ, zero, suc, ◌+◌, ◌<◌, ◌≤◌, Bool, true, false, cond, eqb, List, [], ◌∷◌, ◌++◌, length, set, get_or, slice_get, Option, Some, None, unwrap_or, refl, sym, ap, ◌∙◌, subst, arith}
 use Rattle.std.specs.Option.{option_map, option_or, option_and_then}
-use Rattle.std.specs.List.{find}
 use Rattle.vb_block.specs.declared.digest.Ref.{Ref}
 use Rattle.vb_frozen.specs.declared.entry.FrozenEntry.{FrozenEntry}
 use Rattle.std.specs.Ordering.{nat_cmp}
 use Rattle.std.specs.BTreeMap.{BTreeMap, get}
 use Rattle.std.proofs.lemmas.List.{length-set}
-use Rattle.std.proofs.lemmas.List.Elements.{All-head, All-tail, All-cons, All-nil, All-push}
+use Rattle.std.proofs.lemmas.List.Elements.{All-head, All-tail, All-cons, All-push}
 use Rattle.vb_frozen.specs.Orders.{place_in, entry_in, with_ref, with_reference, refs_in, AreShort, IsOrder}
 
 slice_get-here : (es : List FrozenEntry) (i : ℕ) (d : FrozenEntry) → i < length es → slice_get es i ≡ Some (get_or es i d)

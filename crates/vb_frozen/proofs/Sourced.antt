@@ -1,5 +1,5 @@
 -- The sources of some pages, and one more.
-use Rattle.std.proofs.Common.{◌≡◌, ℕ, zero, suc, ◌+◌, ◌<◌, List, [], ◌∷◌, ◌++◌, length, take, get_or, slice_get, Some, refl, sym, ap, ◌∙◌, arith}
+use Rattle.std.proofs.Common.{◌≡◌, ℕ, suc, ◌+◌, List, [], ◌∷◌, ◌++◌, length, ap, ◌∙◌, arith}
 use Rattle.vb_block.specs.declared.digest.Ref.{Ref}
 use Rattle.vb_inode.specs.declared.next_view.PageSource.{PageSource}
 use Rattle.vb_pages.specs.declared.kept.KeptPage.{KeptPage}

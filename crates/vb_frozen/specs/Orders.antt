@@ -1,5 +1,5 @@
 -- Orders: the entries of a tree in path order, each with its slot and the references of its pages.
-use Rattle.std.specs.Prelude.{◌≡◌, ℕ, ◌+◌, ◌≤◌, ◌==◌, if◌then◌else◌, List, [], ◌∷◌, ◌++◌, length, map, slice_set, Option, Some, None, unwrap_or}
+use Rattle.std.specs.Prelude.{◌≡◌, ◌≢◌, ℕ, ◌+◌, ◌≤◌, ◌==◌, if◌then◌else◌, List, [], ◌∷◌, ◌++◌, length, map, slice_set, Option, Some, None, unwrap_or}
 use Rattle.std.specs.Option.{option_map}
 use Rattle.std.specs.List.{find, All}
 use Rattle.std.specs.Ordering.{nat_cmp}
@@ -62,6 +62,11 @@ with_ref page reference e = record e { refs = slice_set e.refs page reference }
 abbrev pub with_reference : ℕ → ℕ → Ref → List FrozenEntry → List FrozenEntry
 with_reference slot page reference [] = []
 with_reference slot page reference (e ∷ es) = if e.slot == slot then with_ref page reference e ∷ es else e ∷ with_reference slot page reference es
+
+-- no two entries have one slot
+abbrev pub AreApart : List FrozenEntry → Type 0
+AreApart [] = Unit {0}
+AreApart (e ∷ es) = All (λ other. other.slot ≢ e.slot) es × AreApart es
 
 -- where the first entry of a slot stands
 abbrev pub place_in : ℕ → List FrozenEntry → Option ℕ

@@ -15,6 +15,7 @@ use Rattle.vb_pages.specs.declared.page_error.PageError.TheVariants.{Damaged, Di
 use Rattle.vb_pages.specs.Disks.{first_at, HoldsOnly}
 use Rattle.vb_pages.specs.Tables.{kept_page}
 use Rattle.vb_frozen.specs.declared.entry.FrozenEntry.{FrozenEntry}
+use Rattle.vb_frozen.specs.Orders.{AreApart}
 
 -- a page of a slot of an index: the table's, or else the first candidate at its reference's place
 abbrev pub live_page : List (Option Held) → List (PageKey × KeptPage) → DiskState → ℕ → ℕ → List ℕ
@@ -38,9 +39,10 @@ AreEntriesOf pages d [] (e ∷ es) = ⊥
 AreEntriesOf pages d (entry ∷ entries) [] = ⊥
 AreEntriesOf pages d (entry ∷ entries) (e ∷ es) = IsEntryOf pages d entry e × AreEntriesOf pages d entries es
 
--- the entries of an order and their pages, in memory or on the disk, are those of a tree
+-- the entries of an order and their pages, in memory or on the disk, are those of a tree, and no two have one slot
 pub record HasFrozenTree (order : List FrozenEntry) (pages : List (PageKey × KeptPage)) (d : DiskState) (tree : List TreeEntry) : Type 0 where
   pub is_tree : IsTree tree
+  pub apart : AreApart order
   pub entries : AreEntriesOf pages d order tree
 
 -- a page of the entry at a place in the order that is kept in memory

@@ -3,12 +3,14 @@
 
 mod entry;
 mod frozen;
+mod laws;
 mod order;
 mod reading;
 mod sources;
 
 pub use entry::FrozenEntry;
 pub use frozen::Frozen;
+pub use laws::a_settled_page_stays;
 pub use order::Order;
 
 #[cfg(test)]

@@ -39,7 +39,7 @@ impl Model for Order {
 }
 
 impl Order {
-    ghost use Rattle.std.specs.Prelude.{◌≡◌, ◌<◌, List, Some, length, slice_get, option_copied, IfOk};
+    ghost use Rattle.std.specs.Prelude.{◌≡◌, ◌<◌, List, Some, length, slice_get, option_copied, IfOk, OnOk};
     ghost use Rattle.vb_tree.specs.declared.tree.TreeEntry.{TreeEntry};
     ghost use Rattle.vb_tree.specs.Trees.{IsTree};
     ghost use Rattle.vb_index.specs.Indexes.{HasShapeOf};
@@ -47,8 +47,9 @@ impl Order {
 
     /// The entries of an index, in one pass. It says nothing of an index that has no tree.
     pub fn of(alloc: Global, index: &Index) -> Result<Order, AllocError>
-        ensures { (tree : List TreeEntry) → IsTree tree → HasShapeOf index.now.nodes tree
+        ensures entries { (tree : List TreeEntry) → IsTree tree → HasShapeOf index.now.nodes tree
             → IfOk result (λ order. order ≡ order_of index.now.nodes tree) }
+        ensures table { OnOk result (IsTable index.now.nodes) }
     {
         let slots = index.in_path_order(alloc)?;
         let mut entries = Vec::with_capacity(alloc, index.count() as usize)?;

@@ -1,6 +1,5 @@
-use Rattle.std.proofs.Common.{◌≡◌, ℕ, Option, slice_get, ap, sym, ◌∙◌}
+use Rattle.std.proofs.Common.{slice_get, ap, ◌∙◌}
 use Rattle.std.specs.Option.{option_and_then}
-use Rattle.vb_frozen.specs.Orders.{place_in}
 use Rattle.vb_frozen.proofs.Places.{place-entry}
 use Rattle.vb_frozen.proofs.order.entry_of.Goals as goal
 

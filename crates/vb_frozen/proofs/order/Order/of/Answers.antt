@@ -1,5 +1,4 @@
-use Rattle.std.proofs.Common.{◌≡◌, ◌≤◌, ◌++◌, ◌∷◌, [], ℕ, List, Some, unwrap_or, slice_get, ap, sym, ◌∙◌, arith}
-use Rattle.vb_tree.specs.declared.tree.TreeEntry.{TreeEntry}
+use Rattle.std.proofs.Common.{arith}
 use Rattle.vb_frozen.proofs.Built.{all-grown, grown}
 use Rattle.vb_frozen.proofs.order.Order.of.Goals as goal
 
@@ -11,7 +10,7 @@ loop-i-preserved c =
       grown = λ tree is shape. grown c.args.index.now.nodes tree c.in_ok-slots.slots l.entries.items c.add_slot.new.entries.items l.i c.get.result.now c.count.ensures.table is shape (c.in_ok-slots.ensures tree is shape) (omega arith) c.get.ensures (l.invariant.grown tree is shape) c.in_ok-add_slot.ensures.added;
     }
 
-pub returns : goal.returns
-returns c = λ tree is shape.
+pub returns-clause-entries : goal.returns-clause-entries
+returns-clause-entries c = λ tree is shape.
     let l = c.loop-i in
     all-grown c.args.index.now.nodes tree c.in_ok-slots.slots l.entries.items l.i (c.in_ok-slots.ensures tree is shape) (omega arith) (l.invariant.grown tree is shape)
