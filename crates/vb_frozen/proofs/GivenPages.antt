@@ -57,7 +57,7 @@ if-ok : {T E : Type 0} (r : Result T E) (P Q : T → Type 0) → ((x : T) → P 
 if-ok (Ok x) P Q goes holds = goes x holds
 if-ok (Err e) P Q goes holds = tt
 
-some-in : {A B : Type 0} (f : A → Option B) (o : Option A) (x : A) (y : B) → o ≡ Some x → option_and_then f o ≡ Some y → f x ≡ Some y
+pub some-in : {A B : Type 0} (f : A → Option B) (o : Option A) (x : A) (y : B) → o ≡ Some x → option_and_then f o ≡ Some y → f x ≡ Some y
 some-in f o x y is h = sym (ap (option_and_then f) is) ∙ h
 
 -- it is that of the tree

@@ -1,8 +1,8 @@
 -- Frozen views: an order, the pages that are kept in memory, and the tree that they have over a disk.
-use Rattle.std.specs.Prelude.{◌≡◌, ℕ, ◌<◌, List, [], ◌∷◌, length, slice_get, Option, Some, None, unwrap_or, Result, Ok, Err}
+use Rattle.std.specs.Prelude.{◌≡◌, ℕ, ◌<◌, List, [], ◌∷◌, length, slice_get, Option, Some, None, unwrap_or, Result, Ok, Err, IfOk}
 use Rattle.std.specs.Option.{option_and_then}
 use Rattle.vb_block.specs.declared.digest.Ref.{Ref}
-use Rattle.vb_disk.specs.States.{DiskState}
+use Rattle.vb_disk.specs.States.{DiskState, read_at}
 use Rattle.vb_tree.specs.declared.tree.TreeEntry.{TreeEntry}
 use Rattle.vb_tree.specs.Contents.{page_of}
 use Rattle.vb_tree.specs.Trees.{data_pages_of, IsTree}
@@ -13,6 +13,7 @@ use Rattle.vb_pages.specs.declared.kept.PageKey.{PageKey}
 use Rattle.vb_pages.specs.declared.page_error.PageError.{PageError}
 use Rattle.vb_pages.specs.declared.page_error.PageError.TheVariants.{Damaged, DiskFault, Memory}
 use Rattle.vb_pages.specs.Disks.{first_at, HoldsOnly}
+use Rattle.vb_pages.specs.Reads.{AnswersRead, GivesWhatWasRead}
 use Rattle.vb_pages.specs.Tables.{kept_page}
 use Rattle.vb_frozen.specs.declared.entry.FrozenEntry.{FrozenEntry}
 use Rattle.vb_frozen.specs.Orders.{AreApart}
@@ -68,3 +69,11 @@ GivesKept bytes (Err Memory) = Unit {0}
 -- every candidate of the place of a page that isn't kept in memory is one page of its reference's digest
 abbrev pub IsBacked : List FrozenEntry → List (PageKey × KeptPage) → DiskState → ℕ → ℕ → Type 0
 IsBacked order pages d i k = (reference : Ref) → IsOnDisk order pages i k reference → HoldsOnly (d.cells reference.place) reference.digest
+
+-- what is given of a page: where it is kept in memory that page, and else what the read of its reference gave; and over a
+-- disk that tells and backs it that page of the tree, whatever is hurt
+pub record GivesPage (order : List FrozenEntry) (pages : List (PageKey × KeptPage)) (told : Option DiskState) (i k : ℕ) (result : Result (List ℕ) PageError) : Type 0 where
+  pub kept : (bytes : List ℕ) → page_kept order pages i k ≡ Some bytes → GivesKept bytes result
+  pub answer : (reference : Ref) → IsOnDisk order pages i k reference → AnswersRead reference result
+  pub read : (d : DiskState) (reference : Ref) → told ≡ Some d → IsOnDisk order pages i k reference → GivesWhatWasRead (read_at d reference.place) result
+  pub contents : (d : DiskState) (tree : List TreeEntry) (e : TreeEntry) → told ≡ Some d → HasFrozenTree order pages d tree → IsBacked order pages d i k → slice_get tree i ≡ Some e → k < data_pages_of (length e.bytes) → IfOk result (λ given. given ≡ page_of e.bytes k)

@@ -1,19 +1,17 @@
 // A view as it was when it was frozen.
-ghost use Rattle.std.specs.Prelude.{◌≡◌, ◌<◌, ℕ, List, Some, length, slice_get, is_none, option_copied, IfOk, IsSome};
+ghost use Rattle.std.specs.Prelude.{◌≡◌, ◌<◌, List, Some, length, slice_get, is_none, option_copied, IfOk, IsSome};
 ghost use Rattle.vb_cause.specs.Causes.{HasCause, UsesFailures};
 ghost use Rattle.vb_block.specs.declared.digest.Ref.{Ref};
-ghost use Rattle.vb_disk.specs.States.{DiskState, read_at};
+ghost use Rattle.vb_disk.specs.States.{DiskState};
 ghost use Rattle.vb_steps.specs.Steps.{CallsOnce};
 ghost use Rattle.vb_tree.specs.declared.tree.TreeEntry.{TreeEntry};
-ghost use Rattle.vb_tree.specs.Trees.{data_pages_of, IsTree};
-ghost use Rattle.vb_tree.specs.Contents.{page_of};
+ghost use Rattle.vb_tree.specs.Trees.{IsTree};
 ghost use Rattle.vb_index.specs.Contents.{HasTree};
 ghost use Rattle.vb_index.specs.Indexes.{HasShapeOf};
-ghost use Rattle.vb_pages.specs.Reads.{AnswersRead, GivesWhatWasRead};
 ghost use Rattle.vb_pages.specs.Tables.{kept_page, Forgets};
 ghost use Rattle.vb_frozen.specs.Orders.{entry_in, order_of, refs_in, with_reference};
 ghost use Rattle.vb_frozen.specs.Sources.{next_of};
-ghost use Rattle.vb_frozen.specs.Views.{live_page, page_kept, page_ref, GivesKept, HasFrozenTree, IsBacked, IsOnDisk};
+ghost use Rattle.vb_frozen.specs.Views.{live_page, page_kept, page_ref, GivesPage, HasFrozenTree, IsOnDisk};
 
 use crate::reading::page_of_entry;
 use crate::sources::next_of;
@@ -83,16 +81,7 @@ impl Frozen {
     ) -> Result<Page, PageError>
         requires there { IsSome (page_ref self.now.order i page) }
         requires below { (reference : Ref) → IsOnDisk self.now.order self.now.pages i page reference → reference.place < D.seen disk.old }
-        ensures kept { (bytes : List ℕ) → page_kept self.now.order self.now.pages i page ≡ Some bytes → GivesKept bytes result }
-        ensures answer { (reference : Ref) → IsOnDisk self.now.order self.now.pages i page reference → AnswersRead reference result }
-        ensures read { (d : DiskState) (reference : Ref) → D.told disk.old ≡ Some d
-            → IsOnDisk self.now.order self.now.pages i page reference → GivesWhatWasRead (read_at d reference.place) result }
-
-        // Where the disk backs the page, it is that of the tree, whatever is hurt.
-        ensures contents { (d : DiskState) (tree : List TreeEntry) (e : TreeEntry) → D.told disk.old ≡ Some d
-            → HasFrozenTree self.now.order self.now.pages d tree → IsBacked self.now.order self.now.pages d i page
-            → slice_get tree i ≡ Some e → page < data_pages_of (length e.bytes)
-            → IfOk result (λ given. given ≡ page_of e.bytes page) }
+        ensures given { GivesPage self.now.order self.now.pages (D.told disk.old) i page result }
         ensures told { D.told disk.new ≡ D.told disk.old }
         ensures seen { D.seen disk.new ≡ D.seen disk.old }
         ensures cause { HasCause PageError.DiskFault (D.faults disk.old) (D.faults disk.new) result }
