@@ -4,3 +4,8 @@ pub mod Planning
 pub mod Slots
 pub mod ImageLists
 pub mod Nexts
+pub mod PlannedPlaces
+pub mod SameNodes
+pub mod FreeOnes
+pub mod ChangedSlots
+pub mod References

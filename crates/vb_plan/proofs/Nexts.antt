@@ -1,5 +1,5 @@
 -- What is so of all nodes that are planned.
-use Rattle.std.proofs.Common.{◌≡◌, ℕ, zero, suc, ◌+◌, ◌/◌, ◌≤◌, List, [], ◌∷◌, length, All, ap, ◌∙◌, arith}
+use Rattle.std.proofs.Common.{◌≡◌, ℕ, zero, suc, ◌+◌, ◌/◌, ◌≤◌, List, [], ◌∷◌, length, All, sym, ap, ◌∙◌, arith}
 use Rattle.std.proofs.Common.{length-append}
 use Rattle.std.specs.List.{range_with_len}
 use Rattle.std.proofs.lemmas.List.FromFn.{length-range_with_len}
@@ -12,7 +12,12 @@ use Rattle.vb_inode.specs.Nodes.{IsInRange}
 use Rattle.vb_tree.specs.Trees.{data_pages_of, map_pages_of}
 use Rattle.vb_plan.specs.Conditions.{IsNextNode}
 use Rattle.vb_plan.specs.Maps.{committed_refs}
-use Rattle.vb_plan.specs.Plans.{Basis, all_held, by_slot, data_refs, held_next, image_of, images_in, images_of, maps_due, node_at, node_in, same_in_slot, taken_by, taken_by_data}
+use Rattle.vb_plan.specs.Plans.{Basis, all_held, all_pages, pages_next, by_slot, data_refs, held_next, image_of, images_in, images_of, maps_due, node_at, node_in, same_in_slot, taken_by, taken_by_data}
+use Rattle.std.proofs.lemmas.List.Sums.{count_by-le-length, sum_by-cons}
+use Rattle.vb_tree.specs.Trees.{pages_of_length}
+use Rattle.vb_plan.specs.Laws.{pages_of_next}
+use Rattle.vb_plan.specs.Sources.{is_fresh}
+use Rattle.vb_plan.proofs.Planning.{length-pages_next}
 use Rattle.vb_plan.proofs.MapSources.{length-map_sources}
 use Rattle.vb_plan.proofs.Placing.{length-refs_from}
 
@@ -63,3 +68,20 @@ length-images_in old new (slot ∷ slots) =
 pub length-images_of : (nodes : List (Option Held)) (held : List Held) → length (images_of nodes held) ≤ length nodes
 length-images_of nodes held =
     omega (arith, length-images_in nodes (by_slot (length nodes) held) (range_with_len 0 (length nodes)), length-range_with_len 0 (length nodes))
+
+-- a node takes at most the pages of its length
+pub length-pages_few : (basis : Basis) (taken : ℕ) (x : NextNode) → length x.pages ≡ data_pages_of x.node.length → length (pages_next basis taken x) ≤ pages_of_length x.node.length
+length-pages_few basis taken x each =
+    omega (arith, length-pages_next basis taken x, count_by-le-length is_fresh x.pages, count_by-le-length is_fresh (maps_due basis taken x), each, sym (length-refs_from basis.free (taken_by_data taken x) (maps_due basis taken x)) ∙ mapped_as_due basis taken x each)
+
+-- so do all together
+pub all_pages_few : (basis : Basis) (taken : ℕ) (next : List NextNode) → All (λ x. length x.pages ≡ data_pages_of x.node.length) next → length (all_pages basis taken next) ≤ pages_of_next next
+all_pages_few basis taken [] each = omega arith
+all_pages_few basis taken (x ∷ next) each =
+    omega (
+      arith,
+      length-append (pages_next basis taken x) (all_pages basis (taken_by basis taken x) next),
+      length-pages_few basis taken x (each 0 x (omega arith)),
+      all_pages_few basis (taken_by basis taken x) next (all_tail (λ (x : NextNode). length x.pages ≡ data_pages_of x.node.length) x next each),
+      sum_by-cons (λ (x : NextNode). pages_of_length x.node.length) x next,
+    )

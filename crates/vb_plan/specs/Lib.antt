@@ -4,3 +4,4 @@ pub mod Plans
 pub mod Conditions
 pub mod Seen
 pub mod Shown
+pub mod Laws

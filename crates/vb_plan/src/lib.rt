@@ -2,6 +2,7 @@
 #![tactic(auto)]
 
 mod images;
+mod laws;
 mod map_pages;
 mod nodes;
 mod pages;
@@ -9,6 +10,10 @@ mod plan;
 mod plan_page;
 
 pub use images::Images;
+pub use laws::{
+    images_are_of_changed_slots, no_more_pages_are_planned_than_files_take,
+    pages_go_to_the_first_free_places, references_are_kept_or_planned,
+};
 pub use nodes::HeldNodes;
 pub use plan::Plan;
 pub use plan_page::PlanPage;

@@ -1,0 +1,64 @@
+// Laws of plans, each the contract of a function that does nothing.
+ghost use Rattle.std.specs.Prelude.{◌≡◌, ◌↔◌, ◌==◌, ◌<◌, ◌≤◌, ℕ, List, length, get_or, map, take, count_by, All, Contains, Option, Some, slice_get, ◌+◌, true};
+ghost use Rattle.vb_index.specs.Indexes.{IndexState};
+ghost use Rattle.vb_block.specs.declared.digest.Ref.{Ref};
+ghost use Rattle.vb_inode.specs.declared.next_view.NextNode.{NextNode};
+ghost use Rattle.vb_inode.specs.declared.next_view.PageSource.{PageSource};
+ghost use Rattle.vb_inode.specs.declared.next_view.PageSource.TheVariants.{Fresh, Kept};
+ghost use Rattle.vb_inode.specs.declared.node.Node.{Node};
+ghost use Rattle.vb_space.specs.Spaces.{DataPlaces, IsFree};
+ghost use Rattle.vb_tree.specs.Trees.{data_pages_of};
+ghost use Rattle.vb_plan.specs.Conditions.{CanPlan};
+ghost use Rattle.vb_plan.specs.Laws.{block_next, changed_slots, digest_of, pages_of_next, place_of, slots_next};
+ghost use Rattle.vb_plan.specs.Plans.{node_at, plan_of, same_in_slot, Basis};
+ghost use Rattle.vb_plan.specs.declared.plan_page.PlanPage.{PlanPage};
+ghost use Rattle.vb_plan.specs.Seen.{basis_of};
+ghost use Rattle.vb_plan.specs.Sources.{pages_written, refs_from};
+
+/// Pages are planned at the first free places, in their order, where there are enough; so none is used by a view, and
+/// no two are one. It does nothing.
+#[tactic(auto, using(crate::proofs::PlannedPlaces::places_of_plan))]
+pub fn pages_go_to_the_first_free_places()
+    ensures in_order { (basis : Basis) (next : List NextNode) → length (plan_of basis next).pages ≤ length basis.free
+        → map place_of (plan_of basis next).pages ≡ take (length (plan_of basis next).pages) basis.free }
+    ensures free { (index : IndexState) (space : DataPlaces) (next : List NextNode) → CanPlan (basis_of index space) next
+        → All (IsFree space) (map place_of (plan_of (basis_of index space) next).pages) }
+    ensures once { (index : IndexState) (space : DataPlaces) (next : List NextNode) (place : ℕ) → CanPlan (basis_of index space) next
+        → count_by (λ p. p == place) (map place_of (plan_of (basis_of index space) next).pages) ≤ 1 }
+{}
+
+/// At most as many pages are planned as the files take, their map pages among them. It does nothing.
+#[tactic(auto, using(crate::proofs::Nexts::all_pages_few))]
+pub fn no_more_pages_are_planned_than_files_take()
+    ensures { (basis : Basis) (next : List NextNode) → All (λ x. length x.pages ≡ data_pages_of x.node.length) next
+        → length (plan_of basis next).pages ≤ pages_of_next next }
+{}
+
+/// The images are the blocks of exactly the slots whose node changes, upwards; in each other slot the node stays, or
+/// none is there as before. It does nothing.
+pub fn images_are_of_changed_slots()
+    ensures changed { (a b : Option Node) → (same_in_slot a b ≡ true) ↔ (a ≡ b) }
+    ensures images { (basis : Basis) (next : List NextNode)
+        → (plan_of basis next).images ≡ map (block_next basis next) (changed_slots basis next) }
+    ensures others { (basis : Basis) (next : List NextNode) (slot : ℕ) → slot < length basis.nodes
+        → (Contains (changed_slots basis next) slot → ⊥)
+        → node_at basis.nodes slot ≡ node_at (slots_next basis next) slot }
+    ensures rising { (basis : Basis) (next : List NextNode) (i j d : ℕ) → i < j → j < length (changed_slots basis next)
+        → get_or (changed_slots basis next) i d < get_or (changed_slots basis next) j d }
+    ensures below { (basis : Basis) (next : List NextNode) → All (λ slot. slot < length basis.nodes) (changed_slots basis next) }
+    ensures few { (basis : Basis) (next : List NextNode) → length (plan_of basis next).images ≤ length basis.nodes }
+{}
+
+/// A page that is kept keeps its reference, and one that is yet to be written gets a free place, its digest and a write;
+/// so does a map page. It does nothing.
+#[tactic(auto, using(crate::proofs::References::digests_kept))]
+pub fn references_are_kept_or_planned()
+    ensures digests { (free : List ℕ) (taken : ℕ) (sources : List PageSource)
+        → map (λ r. r.digest) (refs_from free taken sources) ≡ map digest_of sources }
+    ensures kept { (free : List ℕ) (taken : ℕ) (sources : List PageSource) (k : ℕ) (r : Ref)
+        → slice_get sources k ≡ Some (Kept r) → slice_get (refs_from free taken sources) k ≡ Some r }
+    ensures written { (page : ℕ → Ref → PlanPage) (free : List ℕ) (taken number : ℕ) (sources : List PageSource) (k : ℕ) (digest : List ℕ)
+        → slice_get sources k ≡ Some (Fresh digest)
+        → (r : Ref) × (slice_get (refs_from free taken sources) k ≡ Some r) × (r.digest ≡ digest)
+        × Contains (pages_written page free taken number sources) (page (number + k) r) }
+{}
