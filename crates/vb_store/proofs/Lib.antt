@@ -59,3 +59,5 @@ pub mod ViewsOfClear
 pub mod StagesKept
 pub mod MountsMade
 pub mod MountsKept
+pub mod ReadsFalling
+pub mod MountsFalling

@@ -31,7 +31,7 @@ reading-calls (Finish w) old new result same = same
 reading-calls (Refused r) old new result same = same
 
 -- no refusal follows a read
-no_refusal : {A : Type 0} (stage : MountStage) (after : MountStage) → ((place : ℕ) → ComesAfter place after → A) → FollowsRead stage after → A
+pub no_refusal : {A : Type 0} (stage : MountStage) (after : MountStage) → ((place : ℕ) → ComesAfter place after → A) → FollowsRead stage after → A
 no_refusal (ReadHome h) after use_it follows = use_it (2 + length h.nodes) follows
 no_refusal (ReadMap m) after use_it follows = use_it m.map.reference.place follows
 no_refusal (Finish w) after use_it follows = use_it w.place follows

@@ -148,7 +148,7 @@ mount-crash (Ready ready) new was then x Stays valid steps begun d told is =
 -- ---- what it answers
 
 -- a phase that is no recovery and no end
-none_more : {A : Type 0} (r : Recover) (phase : MountPhase) (fault : Option RecoverError) → (IsPhaseOf r phase → ⊥) → ((e : RecoverError) → HasMountEnded phase e → ⊥) → FollowsMore r fault phase → A
+pub none_more : {A : Type 0} (r : Recover) (phase : MountPhase) (fault : Option RecoverError) → (IsPhaseOf r phase → ⊥) → ((e : RecoverError) → HasMountEnded phase e → ⊥) → FollowsMore r fault phase → A
 none_more r phase None other on follows = absurd (other follows)
 none_more r phase (Some e) other on follows = absurd (on e follows)
 

@@ -5,6 +5,7 @@ pub mod Formats
 pub mod LentImages
 pub mod Maps
 pub mod Metadata
+pub mod MountFalls
 pub mod MountLends
 pub mod MountLists
 pub mod MountMoves

@@ -20,6 +20,7 @@ use Rattle.vb_store.specs.declared.mount_stage.MountStage.{MountStage}
 use Rattle.vb_store.specs.declared.mount_stage.MountStage.TheVariants.{ReadHome, ReadMap, Finish, Refused}
 use Rattle.vb_store.specs.LentImages.{IsPhaseOf, lent_fault}
 use Rattle.vb_store.specs.Mounts.{HasMountEnded}
+use Rattle.vb_store.specs.MountFalls.{FallsTo}
 use Rattle.vb_store.specs.MountStages.{HasEnded, StandsAfter, blocks_of, due_place, rest_of}
 use Rattle.vb_store.specs.NodesRead.{is_retried}
 use Rattle.vb_store.specs.Readings.{Closes, FollowsRead, ReadsOn}
@@ -109,6 +110,8 @@ pub record ReadingGoesOn (stage : MountStage) (got : Got) (phase : MountPhase) :
   pub after : OnOk answer (FollowsRead stage then)
   pub error : IfErr answer (StandsAfter stage then)
   pub blocks : blocks_of then ≤ blocks_of stage
+  pub falls : OnOk answer (FallsTo stage then)
+  pub ends : IfErr answer (λ error. is_retried error ≡ false)
   pub closes : Closes then answer phase (mount_answer phase)
 
 -- ---- the machine

@@ -7,9 +7,11 @@ use Rattle.vb_journal.specs.declared.recover.Ahead.{Ahead}
 use Rattle.vb_journal.specs.declared.recover_error.RecoverError.{RecoverError}
 use Rattle.vb_journal.specs.declared.recover_error.RecoverError.TheVariants.{Damaged, DiskFault, Memory}
 use Rattle.vb_journal.specs.Recovering.{MakesCall, SeenStays}
+use Rattle.vb_journal.specs.RecoveryCalls.{Falls}
 use Rattle.vb_steps.specs.Disks.{DiskView}
 use Rattle.vb_steps.specs.Steps.{CallsOnce}
 use Rattle.vb_store.specs.declared.mount_phase.MountPhase.{MountPhase}
+use Rattle.vb_store.specs.MountFalls.{most_mount_calls}
 use Rattle.vb_store.specs.Mounts.{AnswersMount, HasMountEnded, IsAheadOfMount, IsMounting, MakesNext, MountsOn, MountStandsAfter, blocks_of_mount, due_of_mount, mount_calls_left, relied_on}
 
 -- the call that was due was made, and the mount went on or has ended; or it failed, and the mount stays. The fields say
@@ -29,5 +31,6 @@ pub record MountSteps (old new : MountPhase) (before after : DiskView) (result :
   pub answer : (begun d : DiskState) → before.told ≡ Some d → IsMounting old begun d → AnswersMount begun new result
   pub list : (begun d next : DiskState) → before.told ≡ Some d → after.told ≡ Some next → IsMounting old begun d
       → MakesNext (due_of_mount old) (mount_calls_left old begun d) (mount_calls_left new begun next) result
+  pub falls : Falls (due_of_mount old) (most_mount_calls old) (most_mount_calls new) result
   pub within : CrashesWithin before.told after.told
   pub crash : MountsOn old new before.told after.told

@@ -6,7 +6,9 @@ ghost use Rattle.vb_disk.specs.States.{DiskState, IsDiskState};
 ghost use Rattle.vb_journal.specs.Recovering.{MakesCall, SeenStays};
 ghost use Rattle.vb_store.specs.Mounts.{blocks_of_mount, due_of_mount, mount_calls, mount_calls_left, mount_phase, ready_view, relied_on, AnswersMount, HasMountEnded, IsAheadOfMount, IsMounting, MakesNext, MountsOn, MountStandsAfter};
 ghost use Rattle.vb_disk.specs.Within.{CrashesWithin};
+ghost use Rattle.vb_journal.specs.RecoveryCalls.{Falls};
 ghost use Rattle.vb_steps.specs.Disks.{disk_view};
+ghost use Rattle.vb_store.specs.MountFalls.{most_mount_calls};
 ghost use Rattle.vb_store.specs.MountSteps.{MountSteps};
 ghost use Rattle.vb_store.specs.Views.{HasNoneBegun, IsView};
 
@@ -110,6 +112,9 @@ impl<D: Disk> Mount<D> {
         // From the first sync on each crash within the step leaves the metadata, and a clear disk stays clear.
         ensures crash { MountsOn (mount_phase self.old) (mount_phase self.new) (D.told self.old.disk) (D.told self.new.disk) }
         ensures within { CrashesWithin (D.told self.old.disk) (D.told self.new.disk) }
+
+        // So steps come to an end, over disks that tell nothing too.
+        ensures falls { Falls (due_of_mount (mount_phase self.old)) (most_mount_calls (mount_phase self.old)) (most_mount_calls (mount_phase self.new)) result }
 
         // All of it as one relation, for callers to cite.
         ensures steps { MountSteps (mount_phase self.old) (mount_phase self.new)

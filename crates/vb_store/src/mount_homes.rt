@@ -3,6 +3,7 @@ ghost use Rattle.std.specs.Prelude.{◌≡◌, ◌+◌, ◌≤◌, ◌++◌, [],
 ghost use Rattle.vb_head.specs.Heads.{IsHead};
 ghost use Rattle.vb_inode.specs.declared.node.Node.{Node as TheNode};
 ghost use Rattle.vb_inode.specs.Reading.{IsNodeOf};
+ghost use Rattle.vb_store.specs.MountFalls.{FallsTo};
 ghost use Rattle.vb_store.specs.MountLists.{ComesAfter, ReadsFirst};
 ghost use Rattle.vb_store.specs.MountMoves.{IsStageLike};
 ghost use Rattle.vb_store.specs.MountStages.{blocks_of, rest_of, IsNoFault, IsSameAnswer, StandsAfter};
@@ -29,6 +30,7 @@ pub(crate) fn take_home(alloc: Global, homes: Homes, page: &Page) -> Stepped
     ensures blocks { blocks_of result.0 ≤ homes.head.blocks }
     ensures error { IfErr result.1 (StandsAfter (MountStage.ReadHome homes) result.0) }
     ensures no_fault { IfErr result.1 IsNoFault }
+    ensures falls { OnOk result.1 (FallsTo (MountStage.ReadHome homes) result.0) }
     ensures stays { IsErrOf result.1 RecoverError.Memory → IsStageLike (MountStage.ReadHome homes) result.0 }
 {
     let slot = homes.nodes.len() as u32;
@@ -49,6 +51,7 @@ fn take_node(alloc: Global, mut homes: Homes, node: Node) -> Stepped
     ensures blocks { blocks_of result.0 ≤ homes.head.blocks }
     ensures error { IfErr result.1 (StandsAfter (MountStage.ReadHome homes) result.0) }
     ensures no_fault { IfErr result.1 IsNoFault }
+    ensures falls { OnOk result.1 (FallsTo (MountStage.ReadHome homes) result.0) }
     ensures stays { IsErrOf result.1 RecoverError.Memory → IsStageLike (MountStage.ReadHome homes) result.0 }
 {
     if homes.nodes.len() + 1 == homes.head.nodes as usize {
@@ -72,6 +75,7 @@ fn take_last(alloc: Global, homes: Homes, node: Node) -> Stepped
     ensures blocks { blocks_of result.0 ≤ homes.head.blocks }
     ensures error { IfErr result.1 (StandsAfter (MountStage.ReadHome homes) result.0) }
     ensures no_fault { IfErr result.1 IsNoFault }
+    ensures falls { OnOk result.1 (FallsTo (MountStage.ReadHome homes) result.0) }
     ensures stays { IsErrOf result.1 RecoverError.Memory → IsStageLike (MountStage.ReadHome homes) result.0 }
 {
     let Homes {

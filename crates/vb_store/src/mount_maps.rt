@@ -2,6 +2,7 @@
 ghost use Rattle.std.specs.Prelude.{◌≡◌, ◌≢◌, ◌<◌, ◌≤◌, ℕ, List, [], false, drop, length, Some, Ok, Err, IfErr, IsErrOf, OnOk};
 ghost use Rattle.vb_store.specs.Metadata.{map_checked};
 ghost use Rattle.vb_store.specs.MountMoves.{IsStageLike};
+ghost use Rattle.vb_store.specs.MountFalls.{FallsTo, LeavesMaps};
 ghost use Rattle.vb_store.specs.MountLists.{map_places, places_left, ComesAfter, ReadsFirst};
 ghost use Rattle.vb_store.specs.MountStages.{blocks_of, due_place, rest_of, rest_of_maps, HasEnded, IsNoFault, IsSameAnswer, IsStopped, StandsAfter};
 ghost use Rattle.vb_store.specs.Namings.{AreBlanksNamed};
@@ -59,6 +60,7 @@ pub(crate) fn go_on(mut tree: Tree, last: u32) -> Stepped
     ensures after { OnOk result.1 (ComesAfter last result.0) }
     ensures blocks { blocks_of result.0 ≤ tree.head.blocks }
     ensures error { IfErr result.1 (λ error. HasEnded result.0 error × (is_retried error ≡ false)) }
+    ensures maps { OnOk result.1 (LeavesMaps (length (drop tree.next tree.maps.items)) tree.head last result.0) }
 {
     if tree.next >= tree.maps.len() {
         return whole(tree, last);
@@ -87,6 +89,7 @@ fn whole(tree: Tree, place: u32) -> Stepped
     ensures list { (reads : ℕ → List ℕ) → places_left reads result.0 ≡ [] }
     ensures after { ComesAfter place result.0 }
     ensures blocks { blocks_of result.0 ≤ tree.head.blocks }
+    ensures maps { LeavesMaps (length (drop tree.next tree.maps.items)) tree.head place result.0 }
     ensures ok { result.1 ≡ Ok tt }
 {
     let Tree {
@@ -109,6 +112,7 @@ pub(crate) fn take_map(alloc: Global, claimed: Claimed, page: &Page) -> Stepped
     ensures blocks { blocks_of result.0 ≤ claimed.tree.head.blocks }
     ensures error { IfErr result.1 (StandsAfter (MountStage.ReadMap claimed) result.0) }
     ensures no_fault { IfErr result.1 IsNoFault }
+    ensures falls { OnOk result.1 (FallsTo (MountStage.ReadMap claimed) result.0) }
     ensures stays { IsErrOf result.1 RecoverError.Memory → IsStageLike (MountStage.ReadMap claimed) result.0 }
 {
     match check_map(alloc, &claimed.map, page) {
@@ -126,6 +130,7 @@ fn take_refs(claimed: Claimed, refs: &Refs) -> Stepped
     ensures after { OnOk result.1 (ComesAfter claimed.map.reference.place result.0) }
     ensures blocks { blocks_of result.0 ≤ claimed.tree.head.blocks }
     ensures error { IfErr result.1 (λ error. HasEnded result.0 error × (is_retried error ≡ false)) }
+    ensures falls { OnOk result.1 (FallsTo (MountStage.ReadMap claimed) result.0) }
 {
     let Claimed { mut tree, map } = claimed;
     let place = map.reference.place;

@@ -70,6 +70,7 @@ pub(crate) struct Claimed {
     pub(crate) map: MapPage,
     ghost is: { IsMapPage map },
     ghost file: { IsOfFile tree.index.nodes map },
+    ghost above: { data_start tree.head ≤ map.reference.place },
     ghost within: { map.reference.place < tree.head.blocks },
     ghost blanks: { AreBlanksNamed tree.index.nodes (map ∷ drop tree.next tree.maps.items) },
 }

@@ -2,6 +2,7 @@
 ghost use Rattle.std.specs.Prelude.{◌≡◌, ◌≤◌, ℕ, List, None, false, Err, IfErr, IfOk, IsErrOf, IsOk, OnOk};
 ghost use Rattle.vb_journal.specs.RecoverViews.{page_in};
 ghost use Rattle.vb_steps.specs.Calls.{Fits, IsPageGot};
+ghost use Rattle.vb_store.specs.MountFalls.{FallsTo};
 ghost use Rattle.vb_store.specs.MountMoves.{mount_answer, read_call, EndsAs, GivesPage, IsReadingLike, IsStageLike, ReadingGoesOn};
 ghost use Rattle.vb_store.specs.MountStages.{blocks_of, due_place, rest_of, IsNoFault, StandsAfter};
 ghost use Rattle.vb_store.specs.Mounts.{blocks_of_mount};
@@ -42,6 +43,7 @@ fn take_page(alloc: Global, stage: MountStage, got: Got) -> Stepped
     ensures error { IfErr result.1 (StandsAfter stage result.0) }
     ensures no_fault { IfErr result.1 IsNoFault }
     ensures stays { IsErrOf result.1 RecoverError.Memory → IsStageLike stage result.0 }
+    ensures falls { OnOk result.1 (FallsTo stage result.0) }
     ensures ended { due_place stage ≡ None → IfErr result.1 (λ error. is_retried error ≡ false) }
 {
     match stage {
@@ -74,6 +76,7 @@ fn close(
     ensures closes { IfOk result (λ phase. Closes stage answer phase (mount_answer phase)) }
     ensures stands { IfErr result (λ phase. phase ≡ MountPhase.Reading stage) }
     ensures memory { IfErr result (λ phase. answer ≡ Err RecoverError.Memory) }
+    ensures goes { IsOk result → IfErr answer (λ error. is_retried error ≡ false) }
 {
     match answer {
         Ok(()) => Ok(go_on(alloc, stage)),

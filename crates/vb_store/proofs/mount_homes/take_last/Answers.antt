@@ -11,6 +11,7 @@ use Rattle.vb_store.specs.MountStages.{HasEnded}
 use Rattle.vb_store.proofs.MountRests.{due-no_fault, ends-no_fault, err-at, on_ok, rest-survey, stands_after_like, survey-stopped}
 use Rattle.vb_store.proofs.mount_homes.take_last.Goals as goal
 use Rattle.vb_store.proofs.StagesKept.{ended-stays, home-stays}
+use Rattle.vb_store.proofs.ReadsFalling.{few-maps, on-falls}
 
 pub survey_of-requires-clause-read : goal.survey_of-requires-clause-read
 survey_of-requires-clause-read c =
@@ -81,3 +82,9 @@ returns-in-Err-clause-stays c =
 
 pub returns-in-Ok-clause-stays : goal.returns-in-Ok-clause-stays
 returns-in-Ok-clause-stays c = ended-stays (ReadHome c.args.homes) c.go_on.result.0 c.go_on.result.1 c.go_on.ensures.error
+
+pub returns-in-Ok-clause-falls : goal.returns-in-Ok-clause-falls
+returns-in-Ok-clause-falls c =
+    let h = c.args.homes in
+    let e = c.in-Ok.ensures in
+    on-falls h (length c.in-Ok.survey.maps.items) c.go_on.result.0 c.go_on.result.1 c.requires.last (few-maps h.head c.in-Ok.survey.index c.in-Ok.survey.maps.items e.of_head e.maps) c.go_on.ensures.maps

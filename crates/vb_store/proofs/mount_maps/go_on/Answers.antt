@@ -8,6 +8,7 @@ use Rattle.vb_store.proofs.PlacesLeft.{places-next}
 use Rattle.vb_store.proofs.MountRests.{rest-named, rest-unnamed}
 use Rattle.vb_store.proofs.Namings.{AreBlanksNamed-next, AreNamedOnce-next}
 use Rattle.vb_store.proofs.mount_maps.go_on.Goals as goal
+use Rattle.vb_store.proofs.ReadsFalling.{claimed-above, maps-one}
 
 pub returns-in-Ok-clause-rest : goal.returns-in-Ok-clause-rest
 returns-in-Ok-clause-rest c =
@@ -35,3 +36,11 @@ invariant_of-result-clause-file c =
     let t = c.args.tree in
     subst (λ (m : MapPage). IsOfFile t.index.nodes m) (sym c.index-map.ensures)
     (All-get_or (IsOfFile t.index.nodes) t.maps.items t.next c.index-map.result.now (omega arith) t.files)
+
+pub returns-in-Ok-clause-maps : goal.returns-in-Ok-clause-maps
+returns-in-Ok-clause-maps c = maps-one c.args.tree.maps.items c.args.tree.next c.index-map.result.now (omega arith) c.index-map.ensures
+
+pub invariant_of-result-clause-above : goal.invariant_of-result-clause-above
+invariant_of-result-clause-above c =
+    let above = claimed-above c.args.tree.claims c.index-map.result.now.reference.place (sym c.in-Ok.ensures.answer) in
+    omega (arith, above, c.args.tree.first)

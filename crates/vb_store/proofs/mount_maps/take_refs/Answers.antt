@@ -13,6 +13,7 @@ use Rattle.vb_store.proofs.MountRests.{rest-off-by, rest-taken-by}
 use Rattle.vb_store.proofs.Namings.{AreBlanksNamed-read, AreNamedOnce-read}
 use Rattle.vb_store.proofs.NamingsEnded.{IsIndexOf-set}
 use Rattle.vb_store.proofs.mount_maps.take_refs.Goals as goal
+use Rattle.vb_store.proofs.ReadsFalling.{on-maps}
 
 pub invariant_of-tree-clause-files : goal.invariant_of-tree-clause-files
 invariant_of-tree-clause-files c =
@@ -60,3 +61,6 @@ go_on-requires-clause-blanks c =
     AreBlanksNamed-read t.index.nodes c.set_refs.new.index.nodes m (drop t.next t.maps.items) m.reference.place c.args.refs.now t.claims c.claim_all.new.claims c.args.claimed.blanks c.requires (omega (arith, t.first))
     (ap (all_claimed_by m.reference.place t.claims) (sym c.slice.ensures) ∙ c.in-Ok.ensures.claimed)
     (c.set_refs.ensures.nodes ∙ ap (with_refs_at t.index.nodes m.slot m.first) c.slice-in-Ok.ensures)
+
+pub returns-in-Ok-clause-falls : goal.returns-in-Ok-clause-falls
+returns-in-Ok-clause-falls c = on-maps c.args.claimed c.go_on.result.0 c.go_on.result.1 c.go_on.ensures.maps

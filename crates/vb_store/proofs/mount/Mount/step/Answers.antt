@@ -3,6 +3,9 @@ use Rattle.vb_journal.specs.Recovering.{MakesCall}
 use Rattle.vb_store.specs.Mounts.{MakesNext, MountStandsAfter, due_of_mount, mount_calls_left}
 use Rattle.vb_store.proofs.Faultless.{no_cause_of, no_use_of}
 use Rattle.vb_store.proofs.MountAnswers.{mount-answers}
+use Rattle.vb_journal.specs.RecoveryCalls.{Falls}
+use Rattle.vb_store.specs.MountFalls.{most_mount_calls}
+use Rattle.vb_store.proofs.MountsFalling.{lost-falls, mount-falls}
 use Rattle.vb_store.proofs.MountsKept.{ended-rests, lost-called, lost-crash, lost-error, lost-list, lost-makes, lost-relied}
 use Rattle.vb_store.proofs.MountsMade.{mount-again, mount-called, mount-crash, mount-error, mount-list, mount-made-as, mount-makes, mount-relied, mount-seen, no-fault-differs}
 use Rattle.vb_store.proofs.mount.Mount.step.Goals as goal
@@ -53,6 +56,11 @@ returns-in-Ok-clause-list g c begun d next told new_told is =
 pub returns-in-Ok-clause-relied : goal.returns-in-Ok-clause-relied
 returns-in-Ok-clause-relied g c = mount-relied c.args.self.now.phase c.step.new.machine c.in-Ok.ensures.steps.went.got (g.D.Disk.seen c.args.self.now.disk) (g.D.Disk.seen c.step.new.disk) c.in-Ok.ensures.steps.went.goes c.in-Ok.ensures.seen c.in-Ok.ensures.blocks
 
+pub returns-in-Ok-clause-falls : goal.returns-in-Ok-clause-falls
+returns-in-Ok-clause-falls g c =
+    mount-made-as (λ r. Falls (due_of_mount c.args.self.now.phase) (most_mount_calls c.args.self.now.phase) (most_mount_calls c.step.new.machine) r) c.step.new.machine c.answer.result c.answer.ensures.answer
+    (mount-falls c.args.self.now.phase c.step.new.machine c.in-Ok.ensures.steps.went.got c.in-Ok.ensures.steps.went.goes)
+
 pub returns-in-Ok-clause-steps : goal.returns-in-Ok-clause-steps
 returns-in-Ok-clause-steps g c = record {
   calls = returns-in-Ok-clause-calls g c;
@@ -68,6 +76,7 @@ returns-in-Ok-clause-steps g c = record {
   relied = returns-in-Ok-clause-relied g c;
   answer = returns-in-Ok-clause-answer g c;
   list = returns-in-Ok-clause-list g c;
+  falls = returns-in-Ok-clause-falls g c;
   within = c.in-Ok.ensures.within;
   crash = returns-in-Ok-clause-crash g c;
 }
@@ -103,6 +112,9 @@ returns-in-Err-clause-list g c = lost-list c.args.self.now.phase c.step.new.mach
 pub returns-in-Err-clause-relied : goal.returns-in-Err-clause-relied
 returns-in-Err-clause-relied g c = lost-relied c.args.self.now.phase c.step.new.machine (g.D.Disk.seen c.args.self.now.disk) (g.D.Disk.seen c.step.new.disk) c.in-Err.ensures.steps.stays c.in-Err.ensures.blocks c.in-Err.ensures.seen
 
+pub returns-in-Err-clause-falls : goal.returns-in-Err-clause-falls
+returns-in-Err-clause-falls g c = lost-falls c.args.self.now.phase c.step.new.machine c.in-Err.error c.from.result c.from.ensures c.in-Err.ensures.steps.stays
+
 pub returns-in-Err-clause-steps : goal.returns-in-Err-clause-steps
 returns-in-Err-clause-steps g c = record {
   calls = returns-in-Err-clause-calls g c;
@@ -118,6 +130,7 @@ returns-in-Err-clause-steps g c = record {
   relied = returns-in-Err-clause-relied g c;
   answer = returns-in-Err-clause-answer g c;
   list = returns-in-Err-clause-list g c;
+  falls = returns-in-Err-clause-falls g c;
   within = c.in-Err.ensures.within;
   crash = returns-in-Err-clause-crash g c;
 }
