@@ -21,6 +21,7 @@ pub mod HomesTold
 pub mod HurtReads
 pub mod ImagesTaken
 pub mod JournalBeside
+pub mod KeptBeside
 pub mod KnownViews
 pub mod MadeEmpty
 pub mod MapLists
@@ -29,15 +30,20 @@ pub mod MountCrashes
 pub mod MountReadings
 pub mod MountRecoveries
 pub mod MountRests
+pub mod MountsFalling
+pub mod MountsKept
+pub mod MountsMade
 pub mod Namings
 pub mod NamingsBegun
 pub mod NamingsEnded
 pub mod OneOfThem
+pub mod PassesReads
 pub mod PhasesBeside
 pub mod PlacesLeft
 pub mod PlacesUsed
 pub mod ReadingsBeside
 pub mod ReadsBeside
+pub mod ReadsFalling
 pub mod RecoveryRefusals
 pub mod ReferencesInside
 pub mod ReferencesSet
@@ -49,6 +55,7 @@ pub mod SameTrees
 pub mod ShownByChoices
 pub mod SlotsRead
 pub mod SoundImages
+pub mod StagesKept
 pub mod StepsBeside
 pub mod Surveyed
 pub mod TakenDisks
@@ -56,8 +63,3 @@ pub mod TakenHeads
 pub mod TakenRecoveries
 pub mod TreesKept
 pub mod ViewsOfClear
-pub mod StagesKept
-pub mod MountsMade
-pub mod MountsKept
-pub mod ReadsFalling
-pub mod MountsFalling

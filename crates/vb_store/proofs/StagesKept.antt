@@ -8,6 +8,7 @@ use Rattle.vb_store.specs.declared.mount_parts.Claimed.{Claimed}
 use Rattle.vb_store.specs.declared.mount_parts.Homes.{Homes}
 use Rattle.vb_store.specs.declared.mount_stage.MountStage.{MountStage}
 use Rattle.vb_store.specs.declared.mount_stage.MountStage.TheVariants.{ReadHome, ReadMap, Finish, Refused}
+use Rattle.vb_store.specs.Settled.{PassesRead, StaysAtEnd}
 use Rattle.vb_store.specs.MountFalls.{FallsTo}
 use Rattle.vb_store.specs.MountMoves.{GivesPage, IsStageLike, ReadingGoesOn, mount_answer, stage_answer}
 use Rattle.vb_store.specs.MountStages.{HasEnded, IsNoFault, IsStopped, StandsAfter, blocks_of, due_place, rest_of}
@@ -66,9 +67,9 @@ ended-answer (Finish w) error ended = absurd ended
 ended-answer (Refused r) error ended = ap stopped_by ended
 
 -- what was read is taken in
-pub goes-read : (stage then : MountStage) (got : Got) (answer : Result (Unit {0}) RecoverError) (r : Result MountPhase MountPhase) → ((reads : ℕ → List ℕ) → GivesPage reads (due_place stage) (page_in got) → rest_of reads then ≡ rest_of reads stage) → ((reads : ℕ → List ℕ) → GivesPage reads (due_place stage) (page_in got) → ReadsOn reads stage then answer) → OnOk answer (FollowsRead stage then) → IfErr answer (StandsAfter stage then) → blocks_of then ≤ blocks_of stage → OnOk answer (FallsTo stage then) → (IsOk r → IfErr answer (λ error. is_retried error ≡ false)) → IfOk r (λ phase. Closes then answer phase (mount_answer phase)) → IfOk r (ReadingGoesOn stage got)
-goes-read stage then got answer (Ok phase) rest list after error blocks falls ends closes = record { then = then; answer = answer; rest = rest; list = list; after = after; error = error; blocks = blocks; falls = falls; ends = ends refl; closes = closes }
-goes-read stage then got answer (Err phase) rest list after error blocks falls ends closes = tt
+pub goes-read : (stage then : MountStage) (got : Got) (answer : Result (Unit {0}) RecoverError) (r : Result MountPhase MountPhase) → ((reads : ℕ → List ℕ) → GivesPage reads (due_place stage) (page_in got) → rest_of reads then ≡ rest_of reads stage) → ((reads : ℕ → List ℕ) → GivesPage reads (due_place stage) (page_in got) → ReadsOn reads stage then answer) → OnOk answer (FollowsRead stage then) → IfErr answer (StandsAfter stage then) → blocks_of then ≤ blocks_of stage → OnOk answer (FallsTo stage then) → (IsOk r → IfErr answer (λ error. is_retried error ≡ false)) → IfOk r (λ phase. Closes then answer phase (mount_answer phase)) → OnOk answer (PassesRead (page_in got) stage) → StaysAtEnd stage then → IfOk r (ReadingGoesOn stage got)
+goes-read stage then got answer (Ok phase) rest list after error blocks falls ends closes passes at_end = record { then = then; answer = answer; rest = rest; list = list; after = after; error = error; blocks = blocks; falls = falls; ends = ends refl; closes = closes; passes = passes; at_end = at_end }
+goes-read stage then got answer (Err phase) rest list after error blocks falls ends closes passes at_end = tt
 
 -- where no read was due, memory doesn't run out
 pub sure-read : (answer : Result (Unit {0}) RecoverError) (r : Result MountPhase MountPhase) → IfErr answer (λ error. is_retried error ≡ false) → IfErr r (λ phase. answer ≡ Err Memory) → IsOk r

@@ -24,6 +24,7 @@ use Rattle.vb_store.specs.MountFalls.{FallsTo}
 use Rattle.vb_store.specs.MountStages.{HasEnded, StandsAfter, blocks_of, due_place, rest_of}
 use Rattle.vb_store.specs.NodesRead.{is_retried}
 use Rattle.vb_store.specs.Readings.{Closes, FollowsRead, ReadsOn}
+use Rattle.vb_store.specs.Settled.{PassesRead, StaysAtEnd}
 
 -- ---- its calls
 
@@ -113,6 +114,8 @@ pub record ReadingGoesOn (stage : MountStage) (got : Got) (phase : MountPhase) :
   pub falls : OnOk answer (FallsTo stage then)
   pub ends : IfErr answer (λ error. is_retried error ≡ false)
   pub closes : Closes then answer phase (mount_answer phase)
+  pub passes : OnOk answer (PassesRead (page_in got) stage)
+  pub at_end : StaysAtEnd stage then
 
 -- ---- the machine
 

@@ -12,6 +12,7 @@ use Rattle.vb_steps.specs.Disks.{DiskView}
 use Rattle.vb_steps.specs.Steps.{CallsOnce}
 use Rattle.vb_store.specs.declared.mount_phase.MountPhase.{MountPhase}
 use Rattle.vb_store.specs.MountFalls.{most_mount_calls}
+use Rattle.vb_store.specs.MountsBeside.{KeepsBeside}
 use Rattle.vb_store.specs.Mounts.{AnswersMount, HasMountEnded, IsAheadOfMount, IsMounting, MakesNext, MountsOn, MountStandsAfter, blocks_of_mount, due_of_mount, mount_calls_left, relied_on}
 
 -- the call that was due was made, and the mount went on or has ended; or it failed, and the mount stays. The fields say
@@ -34,3 +35,4 @@ pub record MountSteps (old new : MountPhase) (before after : DiskView) (result :
   pub falls : Falls (due_of_mount old) (most_mount_calls old) (most_mount_calls new) result
   pub within : CrashesWithin before.told after.told
   pub crash : MountsOn old new before.told after.told
+  pub keeps : KeepsBeside old new before.told after.told

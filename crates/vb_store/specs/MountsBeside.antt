@@ -1,5 +1,5 @@
 -- What is known beside damage in each phase of a mount.
-use Rattle.std.specs.Prelude.{◌≡◌, ◌⊎◌, Bool, List}
+use Rattle.std.specs.Prelude.{◌≡◌, ◌⊎◌, Bool, List, Option, Some}
 use Rattle.vb_disk.specs.States.{DiskState}
 use Rattle.vb_journal.specs.declared.recover_error.RecoverError.{RecoverError}
 use Rattle.vb_journal.specs.Recovers.{recovery_stage}
@@ -31,3 +31,9 @@ abbrev pub IsMountedBeside : List TreeView → Bool → MountPhase → DiskState
 IsMountedBeside views made (Recovering r) d = IsBeside views made (view_of (recovery_stage r.recover)) d
 IsMountedBeside views made (Reading stage) d = IsReadBeside views made stage d ⊎ IsRefusedBeside views made stage d
 IsMountedBeside views made (Ready ready) d = IsReadyBeside views made ready.view d
+
+-- a step keeps it, from the disk before it to the one after it
+abbrev pub KeepsBeside : MountPhase → MountPhase → Option DiskState → Option DiskState → Type 0
+KeepsBeside before after old new =
+    (views : List TreeView) (made : Bool) (d next : DiskState) → old ≡ Some d → new ≡ Some next
+    → IsMountedBeside views made before d → IsMountedBeside views made after next

@@ -44,12 +44,25 @@ pub record TakesIn (place : ℕ) (page : List ℕ) (before after : MountStage) (
   pub same : IsSameAnswer place page before after
   pub ends : Passes ⊎ ((error : RecoverError) × HasEnded after error)
 
--- so it did at each stage: the check of a home is that of its node, and of a map page its digest and its bytes
+-- a page that was read passes its check: a home that of its node, and a map page that of its digest and its bytes
+abbrev pub PassesRead : List ℕ → MountStage → Type 0
+PassesRead page (ReadHome h) =
+    IsOk (node_checked h.head.nodes (length h.nodes) (record { place = block_place h.slots.items h.head.nodes (length h.nodes); page = page }))
+PassesRead page (ReadMap m) = IsOk (map_checked m.map page)
+PassesRead page (Finish w) = Unit {0}
+PassesRead page (Refused r) = Unit {0}
+
+-- where all was read, or something was refused, the stage stays
+abbrev pub StaysAtEnd : MountStage → MountStage → Type 0
+StaysAtEnd (ReadHome h) after = Unit {0}
+StaysAtEnd (ReadMap m) after = Unit {0}
+StaysAtEnd (Finish w) after = after ≡ Finish w
+StaysAtEnd (Refused r) after = after ≡ Refused r
+
+-- so it did at each stage
 abbrev pub TakesPage : List ℕ → MountStage → MountStage → Type 0
-TakesPage page (ReadHome h) after =
-    TakesIn (2 + length h.nodes) page (ReadHome h) after
-    (IsOk (node_checked h.head.nodes (length h.nodes) (record { place = block_place h.slots.items h.head.nodes (length h.nodes); page = page })))
-TakesPage page (ReadMap m) after = TakesIn m.map.reference.place page (ReadMap m) after (IsOk (map_checked m.map page))
+TakesPage page (ReadHome h) after = TakesIn (2 + length h.nodes) page (ReadHome h) after (PassesRead page (ReadHome h))
+TakesPage page (ReadMap m) after = TakesIn m.map.reference.place page (ReadMap m) after (PassesRead page (ReadMap m))
 TakesPage page (Finish w) after = after ≡ Finish w
 TakesPage page (Refused r) after = after ≡ Refused r
 

@@ -1,5 +1,5 @@
 // A mount: the recovery of a store's journal, and the reads of its nodes and map pages, one call of the disk at a time.
-ghost use Rattle.std.specs.Prelude.{is_some, ◌≡◌, ◌≢◌, ◌≤◌, ℕ, List, Some, None, IfOk, IfErr, IsSome};
+ghost use Rattle.std.specs.Prelude.{is_some, ◌≡◌, ◌≢◌, ◌≤◌, ℕ, Bool, List, Some, None, IfOk, IfErr, IsSome};
 ghost use Rattle.vb_cause.specs.Causes.{HasCause, UsesFailures};
 ghost use Rattle.vb_steps.specs.Steps.{CallsOnce};
 ghost use Rattle.vb_disk.specs.States.{DiskState, IsDiskState};
@@ -10,6 +10,8 @@ ghost use Rattle.vb_journal.specs.RecoveryCalls.{Falls};
 ghost use Rattle.vb_steps.specs.Disks.{disk_view};
 ghost use Rattle.vb_store.specs.MountFalls.{most_mount_calls};
 ghost use Rattle.vb_store.specs.MountSteps.{MountSteps};
+ghost use Rattle.vb_store.specs.MountsBeside.{IsMountedBeside, KeepsBeside};
+ghost use Rattle.vb_store.specs.OneOf.{RecoversOneOf, TreeView};
 ghost use Rattle.vb_store.specs.Views.{HasNoneBegun, IsView};
 
 use crate::Mounted;
@@ -38,6 +40,7 @@ impl<D> Mount<D> {
         ensures relied { relied_on (mount_phase result) ≡ 0 }
         ensures known { (begun : DiskState) → IsDiskState begun → IsMounting (mount_phase result) begun begun }
         ensures calls { (begun : DiskState) → mount_calls_left (mount_phase result) begun begun ≡ mount_calls begun }
+        ensures beside { (views : List TreeView) (made : Bool) (d : DiskState) → RecoversOneOf views made d → IsMountedBeside views made (mount_phase result) d }
     {
         let recover = Recover::start(alloc);
         let phase = MountPhase::Recovering(JournalPhase { recover });
@@ -112,6 +115,9 @@ impl<D: Disk> Mount<D> {
         // From the first sync on each crash within the step leaves the metadata, and a clear disk stays clear.
         ensures crash { MountsOn (mount_phase self.old) (mount_phase self.new) (D.told self.old.disk) (D.told self.new.disk) }
         ensures within { CrashesWithin (D.told self.old.disk) (D.told self.new.disk) }
+
+        // What is known beside damage stays so: the same views may be recovered, and one that is ready is one of them.
+        ensures keeps { KeepsBeside (mount_phase self.old) (mount_phase self.new) (D.told self.old.disk) (D.told self.new.disk) }
 
         // So steps come to an end, over disks that tell nothing too.
         ensures falls { Falls (due_of_mount (mount_phase self.old)) (most_mount_calls (mount_phase self.old)) (most_mount_calls (mount_phase self.new)) result }

@@ -8,6 +8,7 @@ ghost use Rattle.vb_store.specs.MountLists.{ComesAfter, ReadsFirst};
 ghost use Rattle.vb_store.specs.MountMoves.{IsStageLike};
 ghost use Rattle.vb_store.specs.MountStages.{blocks_of, rest_of, IsNoFault, IsSameAnswer, StandsAfter};
 ghost use Rattle.vb_store.specs.NodesRead.{AreRead};
+ghost use Rattle.vb_store.specs.Settled.{PassesRead};
 ghost use Rattle.vb_store.specs.Surveys.{IsHomeRead};
 
 use crate::mount_maps::{Stepped, go_on, stopped};
@@ -27,6 +28,7 @@ pub(crate) fn take_home(alloc: Global, homes: Homes, page: &Page) -> Stepped
     ensures list { (reads : ℕ → List ℕ) → reads (2 + length homes.nodes) ≡ page.now
         → ReadsFirst reads (2 + length homes.nodes) (MountStage.ReadHome homes) result.0 result.1 }
     ensures after { OnOk result.1 (ComesAfter (2 + length homes.nodes) result.0) }
+    ensures passes { OnOk result.1 (PassesRead page.now (MountStage.ReadHome homes)) }
     ensures blocks { blocks_of result.0 ≤ homes.head.blocks }
     ensures error { IfErr result.1 (StandsAfter (MountStage.ReadHome homes) result.0) }
     ensures no_fault { IfErr result.1 IsNoFault }

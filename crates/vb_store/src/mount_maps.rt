@@ -5,6 +5,7 @@ ghost use Rattle.vb_store.specs.MountMoves.{IsStageLike};
 ghost use Rattle.vb_store.specs.MountFalls.{FallsTo, LeavesMaps};
 ghost use Rattle.vb_store.specs.MountLists.{map_places, places_left, ComesAfter, ReadsFirst};
 ghost use Rattle.vb_store.specs.MountStages.{blocks_of, due_place, rest_of, rest_of_maps, HasEnded, IsNoFault, IsSameAnswer, IsStopped, StandsAfter};
+ghost use Rattle.vb_store.specs.Settled.{PassesRead};
 ghost use Rattle.vb_store.specs.Namings.{AreBlanksNamed};
 ghost use Rattle.vb_store.specs.NodesRead.{is_retried};
 
@@ -109,6 +110,7 @@ pub(crate) fn take_map(alloc: Global, claimed: Claimed, page: &Page) -> Stepped
     ensures list { (reads : ℕ → List ℕ) → reads claimed.map.reference.place ≡ page.now
         → ReadsFirst reads claimed.map.reference.place (MountStage.ReadMap claimed) result.0 result.1 }
     ensures after { OnOk result.1 (ComesAfter claimed.map.reference.place result.0) }
+    ensures passes { OnOk result.1 (PassesRead page.now (MountStage.ReadMap claimed)) }
     ensures blocks { blocks_of result.0 ≤ claimed.tree.head.blocks }
     ensures error { IfErr result.1 (StandsAfter (MountStage.ReadMap claimed) result.0) }
     ensures no_fault { IfErr result.1 IsNoFault }

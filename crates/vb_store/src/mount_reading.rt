@@ -7,6 +7,7 @@ ghost use Rattle.vb_store.specs.MountMoves.{mount_answer, read_call, EndsAs, Giv
 ghost use Rattle.vb_store.specs.MountStages.{blocks_of, due_place, rest_of, IsNoFault, StandsAfter};
 ghost use Rattle.vb_store.specs.Mounts.{blocks_of_mount};
 ghost use Rattle.vb_store.specs.NodesRead.{is_retried};
+ghost use Rattle.vb_store.specs.Settled.{PassesRead, StaysAtEnd};
 ghost use Rattle.vb_store.specs.Readings.{Closes, ClosesAfter, FollowsRead, IsClosed, ReadsOn};
 
 use crate::mount_homes::take_home;
@@ -39,6 +40,8 @@ fn take_page(alloc: Global, stage: MountStage, got: Got) -> Stepped
     ensures rest { (reads : ℕ → List ℕ) → GivesPage reads (due_place stage) (page_in got) → rest_of reads result.0 ≡ rest_of reads stage }
     ensures list { (reads : ℕ → List ℕ) → GivesPage reads (due_place stage) (page_in got) → ReadsOn reads stage result.0 result.1 }
     ensures after { OnOk result.1 (FollowsRead stage result.0) }
+    ensures passes { OnOk result.1 (PassesRead (page_in got) stage) }
+    ensures at_end { StaysAtEnd stage result.0 }
     ensures blocks { blocks_of result.0 ≤ blocks_of stage }
     ensures error { IfErr result.1 (StandsAfter stage result.0) }
     ensures no_fault { IfErr result.1 IsNoFault }

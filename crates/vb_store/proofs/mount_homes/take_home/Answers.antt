@@ -4,6 +4,7 @@ use Rattle.vb_store.proofs.PlacesLeft.{reads-stopped-by}
 use Rattle.std.proofs.Common.{refl}
 use Rattle.vb_store.specs.declared.mount_stage.MountStage.TheVariants.{ReadHome}
 use Rattle.vb_store.proofs.MountRests.{due-no_fault, err-at, home-stopped-by}
+use Rattle.vb_store.proofs.PassesReads.{passes-home}
 use Rattle.vb_store.proofs.mount_homes.take_home.Goals as goal
 use Rattle.vb_store.proofs.StagesKept.{home-stays}
 
@@ -21,3 +22,6 @@ stopped-requires c = due-differs _ c.in-Err.error (node-differs _ _ _) c.in-Err.
 
 pub returns-in-Err-clause-stays : goal.returns-in-Err-clause-stays
 returns-in-Err-clause-stays c = home-stays c.args.homes c.args.homes c.stopped.result.0 c.in-Err.error c.stopped.result.1 c.stopped.ensures.error c.stopped.ensures.stage refl refl refl refl
+
+pub returns-in-Ok-clause-passes : goal.returns-in-Ok-clause-passes
+returns-in-Ok-clause-passes c = passes-home c.args.homes c.args.page.now c.in-Ok.node c.deref.result.now c.len-slot.result c.take_node.result.1 c.deref.ensures.value c.len-slot.ensures c.in-Ok.ensures.due

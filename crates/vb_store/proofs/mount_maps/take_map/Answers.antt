@@ -7,6 +7,7 @@ use Rattle.vb_store.proofs.PlacesLeft.{reads-stopped-by}
 use Rattle.vb_store.specs.declared.mount_stage.MountStage.TheVariants.{ReadMap}
 use Rattle.std.proofs.Common.{refl}
 use Rattle.vb_store.proofs.MountRests.{due-no_fault, ends-no_fault, err-at, map-stopped}
+use Rattle.vb_store.proofs.PassesReads.{passes-map}
 use Rattle.vb_store.proofs.mount_maps.take_map.Goals as goal
 use Rattle.vb_store.proofs.StagesKept.{ended-stays, map-stays}
 
@@ -36,3 +37,6 @@ returns-in-Err-clause-stays c = map-stays c.args.claimed c.stopped.result.0 c.in
 
 pub returns-in-Ok-clause-stays : goal.returns-in-Ok-clause-stays
 returns-in-Ok-clause-stays c = ended-stays (ReadMap c.args.claimed) c.take_refs.result.0 c.take_refs.result.1 c.take_refs.ensures.error
+
+pub returns-in-Ok-clause-passes : goal.returns-in-Ok-clause-passes
+returns-in-Ok-clause-passes c = passes-map c.args.claimed c.args.page.now c.in-Ok.refs c.take_refs.result.1 c.in-Ok.ensures.due

@@ -5,7 +5,7 @@ use Rattle.vb_store.proofs.mount_reading.read_on.Goals as goal
 pub returns-clause-goes : goal.returns-clause-goes
 returns-clause-goes c =
     let took = c.take_page-stage in
-    goes-read c.args.stage took.result.0 c.args.got took.result.1 c.close.result took.ensures.rest took.ensures.list took.ensures.after took.ensures.error took.ensures.blocks took.ensures.falls c.close.ensures.goes c.close.ensures.closes
+    goes-read c.args.stage took.result.0 c.args.got took.result.1 c.close.result took.ensures.rest took.ensures.list took.ensures.after took.ensures.error took.ensures.blocks took.ensures.falls c.close.ensures.goes c.close.ensures.closes took.ensures.passes took.ensures.at_end
 
 pub returns-clause-sure : goal.returns-clause-sure
 returns-clause-sure c none = sure-read c.take_page-stage.result.1 c.close.result (c.take_page-stage.ensures.ended none) c.close.ensures.memory

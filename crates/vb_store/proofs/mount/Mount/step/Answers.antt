@@ -8,6 +8,7 @@ use Rattle.vb_store.specs.MountFalls.{most_mount_calls}
 use Rattle.vb_store.proofs.MountsFalling.{lost-falls, mount-falls}
 use Rattle.vb_store.proofs.MountsKept.{ended-rests, lost-called, lost-crash, lost-error, lost-list, lost-makes, lost-relied}
 use Rattle.vb_store.proofs.MountsMade.{mount-again, mount-called, mount-crash, mount-error, mount-list, mount-made-as, mount-makes, mount-relied, mount-seen, no-fault-differs}
+use Rattle.vb_store.proofs.KeptBeside.{keeps-lost, keeps-made}
 use Rattle.vb_store.proofs.mount.Mount.step.Goals as goal
 
 pub returns-in-Ok-clause-calls : goal.returns-in-Ok-clause-calls
@@ -61,6 +62,10 @@ returns-in-Ok-clause-falls g c =
     mount-made-as (λ r. Falls (due_of_mount c.args.self.now.phase) (most_mount_calls c.args.self.now.phase) (most_mount_calls c.step.new.machine) r) c.step.new.machine c.answer.result c.answer.ensures.answer
     (mount-falls c.args.self.now.phase c.step.new.machine c.in-Ok.ensures.steps.went.got c.in-Ok.ensures.steps.went.goes)
 
+pub returns-in-Ok-clause-keeps : goal.returns-in-Ok-clause-keeps
+returns-in-Ok-clause-keeps g c =
+    keeps-made c.args.self.now.phase c.step.new.machine (g.D.Disk.told c.args.self.now.disk) (g.D.Disk.told c.step.new.disk) c.in-Ok.field-0 (λ d told. g.met.D.Disk.valid c.args.self.now.disk d told) (λ d told. g.met.D.Disk.valid c.step.new.disk d told) c.in-Ok.ensures.steps
+
 pub returns-in-Ok-clause-steps : goal.returns-in-Ok-clause-steps
 returns-in-Ok-clause-steps g c = record {
   calls = returns-in-Ok-clause-calls g c;
@@ -79,6 +84,7 @@ returns-in-Ok-clause-steps g c = record {
   falls = returns-in-Ok-clause-falls g c;
   within = c.in-Ok.ensures.within;
   crash = returns-in-Ok-clause-crash g c;
+  keeps = returns-in-Ok-clause-keeps g c;
 }
 
 pub returns-in-Err-clause-calls : goal.returns-in-Err-clause-calls
@@ -115,6 +121,10 @@ returns-in-Err-clause-relied g c = lost-relied c.args.self.now.phase c.step.new.
 pub returns-in-Err-clause-falls : goal.returns-in-Err-clause-falls
 returns-in-Err-clause-falls g c = lost-falls c.args.self.now.phase c.step.new.machine c.in-Err.error c.from.result c.from.ensures c.in-Err.ensures.steps.stays
 
+pub returns-in-Err-clause-keeps : goal.returns-in-Err-clause-keeps
+returns-in-Err-clause-keeps g c =
+    keeps-lost c.args.self.now.phase c.step.new.machine (g.D.Disk.told c.args.self.now.disk) (g.D.Disk.told c.step.new.disk) c.in-Err.error c.in-Err.ensures.steps
+
 pub returns-in-Err-clause-steps : goal.returns-in-Err-clause-steps
 returns-in-Err-clause-steps g c = record {
   calls = returns-in-Err-clause-calls g c;
@@ -133,4 +143,5 @@ returns-in-Err-clause-steps g c = record {
   falls = returns-in-Err-clause-falls g c;
   within = c.in-Err.ensures.within;
   crash = returns-in-Err-clause-crash g c;
+  keeps = returns-in-Err-clause-keeps g c;
 }
