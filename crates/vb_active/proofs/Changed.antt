@@ -37,6 +37,7 @@ use Rattle.vb_tree.specs.declared.tree.Limits.{Limits}
 use Rattle.vb_tree.specs.Renames.{renamed}
 use Rattle.vb_active.proofs.Reading.{failed-performs, refused-performs}
 use Rattle.vb_active.specs.Performs.{CutsFile, HasTreeOn, Performs, answer_of_error, making_of}
+use Rattle.vb_active.specs.Needs.{DirtiesPage}
 use Rattle.vb_active.specs.Views.{ActiveState, KeepsFiles, due_page, ref_at}
 use Rattle.vb_active.proofs.Carries.{carried}
 use Rattle.vb_active.proofs.Dues.{due-same}
@@ -49,8 +50,8 @@ StaysAs old new = (slot page : ℕ) → IsSome (ref_at new.index.nodes slot page
 -- a change of the nodes alone
 pub changed-performs : (told : Option DiskState) (old new : ActiveState) (op : Op) → ((tree : List TreeEntry) → answer_of tree op ≡ Done) → new.index.limits ≡ old.index.limits → IsTable new.index.nodes
     → ((pages : ℕ → ℕ → List ℕ) (tree : List TreeEntry) → HasTree old.index.nodes pages tree → (refusal_of old.index.limits tree op ≡ None) × HasTree new.index.nodes pages (effect_of tree op))
-    → StaysAs old new → Performs told old new op (Ok Done)
-changed-performs told old new op done limits table changed stays =
+    → StaysAs old new → ((slot page : ℕ) → IsSome (kept_page new.pages slot page) → IsSome (kept_page old.pages slot page)) → ((len page : ℕ) → DirtiesPage op len page → ⊥) → Performs told old new op (Ok Done)
+changed-performs told old new op done limits table changed stays fewer clean =
     record {
       played = λ d tree is backs has.
           let both = changed (due_page old d) tree has in
@@ -66,6 +67,8 @@ changed-performs told old new op done limits table changed stays =
       out = λ s p reference out.
           let same = stays s p (ap is_some out.at) in
           record { at = sym same.0 ∙ out.at; apart = sym same.1 ∙ out.apart };
+      least = λ s p some. inl (fewer s p some);
+      dirty = λ e s p dirties. absurd (clean dirties.len p dirties.dirty);
     }
 
 -- what a slot holds once it was set
@@ -119,6 +122,22 @@ cut-files nodes pages new (Some slot) cuts files s p some = elim (cases_Bool (s 
   | inl h ↦ absurd (no_some (kept_page new s p) (cuts s p ∙ ap (λ b. if b && nat_le 0 p then None else kept_page pages s p) h ∙ ap (λ b. if b then None else kept_page pages s p) (from_zero p)) some)
   | inr h ↦ ap is_some (ref_at-other nodes slot s p None h) ∙ files s p (ap is_some (sym (cuts s p ∙ ap (λ b. if b && nat_le 0 p then None else kept_page pages s p) h)) ∙ some)
 ]
+
+-- nor is there a new one
+cut-fewer : (pages new : List (PageKey × KeptPage)) (o : Option ℕ) → CutsFile o pages new → (s p : ℕ) → IsSome (kept_page new s p) → IsSome (kept_page pages s p)
+cut-fewer pages new None cuts s p some = subst (λ t. IsSome (kept_page t s p)) cuts some
+cut-fewer pages new (Some slot) cuts s p some = by (s == slot && nat_le 0 p) refl where
+  by : (b : Bool) → (s == slot && nat_le 0 p) ≡ b → IsSome (kept_page pages s p)
+  by true e = absurd (no_some (kept_page new s p) (cuts s p ∙ ap (λ b. if b then None else kept_page pages s p) e) some)
+  by false e = ap is_some (sym (cuts s p ∙ ap (λ b. if b then None else kept_page pages s p) e)) ∙ some
+
+removal-clean : (kind : Kind) (path : List (List ℕ)) (len page : ℕ) → DirtiesPage (removal_of kind path) len page → ⊥
+removal-clean Folder path len page d = d
+removal-clean File path len page d = d
+
+making-clean : (kind : Kind) (path : List (List ℕ)) (len page : ℕ) → DirtiesPage (making_of kind path) len page → ⊥
+making-clean Folder path len page d = d
+making-clean File path len page d = d
 
 -- ---- a rename
 
@@ -175,7 +194,8 @@ removed-performs told view index new pages new_pages kind path slot is made tabl
     (λ s p some.
     let nodes = ap (λ (i : IndexState). ref_at i.nodes s p) made in
     let both = cut-stays index.nodes pages new_pages (Some slot) cuts s p (ap is_some (sym nodes) ∙ some) in
-    (nodes ∙ both.0, both.1)))
+    (nodes ∙ both.0, both.1))
+    (cut-fewer pages new_pages (Some slot) cuts) (removal-clean kind path))
 
 pub renamed-files : (index new : IndexState) (pages new_pages : List (PageKey × KeptPage)) (source target : List (List ℕ)) (replaced : Option ℕ) → KeepsFiles index.nodes pages → new ≡ record index { nodes = renamed_nodes source target index.nodes } → replaced ≡ replaced_slot source target index.nodes → CutsFile replaced pages new_pages → KeepsFiles new.nodes new_pages
 renamed-files index new pages new_pages source target replaced files made is cuts s p some =
@@ -195,7 +215,8 @@ renamed-performs told view index new pages new_pages source target replaced is m
     (λ s p some.
     let nodes : ref_at new.nodes s p ≡ ref_at (without_slot index.nodes replaced) s p = ap (λ (i : IndexState). ref_at i.nodes s p) made ∙ renamed-refs index.nodes source target s p ∙ ap (λ o. ref_at (without_slot index.nodes o) s p) (sym replaced_is) in
     let both = cut-stays index.nodes pages new_pages replaced cuts s p (ap is_some (sym nodes) ∙ some) in
-    (nodes ∙ both.0, both.1)))
+    (nodes ∙ both.0, both.1))
+    (cut-fewer pages new_pages replaced cuts) (λ len page dirties. dirties))
 
 making-answer : (kind : Kind) (path : List (List ℕ)) (tree : List TreeEntry) → answer_of tree (making_of kind path) ≡ Done
 making-answer Folder path tree = refl
@@ -223,7 +244,8 @@ made-performs told view index new pages kind path slot folder is made table allo
     let P : ActiveState → Type 0 = λ v. Performs told v after (making_of kind path) (Ok Done) in
     subst P is (changed-performs told (record { index = index; pages = pages }) after (making_of kind path) (making-answer kind path) (ap (λ (i : IndexState). i.limits) made) table
     (λ ps tree has. (making-refusal kind path index.limits tree ∙ allowed tree has.shape, subst (HasTree new.nodes ps) (sym (making-effect kind path tree)) (trees ps tree has)))
-    (λ s p some. (filled-stays index.nodes new.nodes slot (new_held slot kind folder (name_of path)) (bare slot kind folder (name_of path)) (ap (λ (i : IndexState). i.nodes) made) s p some, refl)))
+    (λ s p some. (filled-stays index.nodes new.nodes slot (new_held slot kind folder (name_of path)) (bare slot kind folder (name_of path)) (ap (λ (i : IndexState). i.nodes) made) s p some, refl))
+    (λ s p some. some) (making-clean kind path))
 
 -- where the index changed nothing
 pub unmade-performs : (told : Option DiskState) (view : ActiveState) (index new : IndexState) (pages : List (PageKey × KeptPage)) (kind : Kind) (path : List (List ℕ)) (error : IndexError) (result : Result Reply PageError)

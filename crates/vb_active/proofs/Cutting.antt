@@ -35,6 +35,8 @@ row-grown long len first count run more from size e =
     record {
       within = omega (arith, n, from, size, more);
       grown = λ h. (from, omega (arith, n, from, size, more));
+      dirtied = λ k low high. inl (omega (arith, low, from), omega (arith, high, n, from, size, more));
+      dirties = λ k d. elim d [ inl w ↦ (omega (arith, w.0, from), omega (arith, w.1, n, from, size, more)) | inr w ↦ absurd (let shorter = w.0 in omega (arith, shorter, more)) ];
       whole = λ k low out. inl (omega (arith, more));
     }
 
@@ -44,15 +46,19 @@ row-kept long len first run fewer from e why =
     record {
       within = omega (arith, n, from);
       grown = λ h. absurd (omega (arith, h, fewer));
+      dirtied = λ k low high. absurd (omega (arith, low, high, n));
+      dirties = λ k d. absurd (elim d [ inl w ↦ omega (arith, w.0, w.1, fewer) | inr w ↦ elim why [ inl h ↦ omega (arith, h, w.0) | inr h ↦ omega (arith, h, w.1) ] ]);
       whole = λ k low out. elim why [ inl h ↦ inl h | inr h ↦ inr (omega (arith, h, low)) ];
     }
 
-pub row-cut : (long len first : ℕ) (run : List (List ℕ)) (page : List ℕ) → data_pages_of len ≤ data_pages_of long → first ≡ len / 4096 → 0 < len % 4096 → run ≡ page ∷ [] → IsRow long len first run
-row-cut long len first run page fewer from cut e =
+pub row-cut : (long len first : ℕ) (run : List (List ℕ)) (page : List ℕ) → data_pages_of len ≤ data_pages_of long → len < long → first ≡ len / 4096 → 0 < len % 4096 → run ≡ page ∷ [] → IsRow long len first run
+row-cut long len first run page fewer shorter from cut e =
     let n : length run ≡ 1 = ap length e in
     record {
       within = omega (arith, n, from, cut);
       grown = λ h. absurd (omega (arith, h, fewer));
+      dirtied = λ k low high. inr (shorter, cut, omega (arith, low, high, n, from));
+      dirties = λ k d. elim d [ inl w ↦ absurd (omega (arith, w.0, w.1, fewer)) | inr w ↦ (omega (arith, w.2, from), omega (arith, w.2, n, from)) ];
       whole = λ k low out. inr (elim out [ inl before ↦ omega (arith, before, from) | inr after ↦ absurd (omega (arith, after, n, from, low, cut)) ]);
     }
 
@@ -129,6 +135,9 @@ truncate-performs told old new path slot long len first run file short there all
       effect = λ tree. refl;
       size = λ b e. length-truncated_to len b;
       rows = rows;
+      at_path = refl;
+      dirtied = row.dirtied;
+      dirties = row.dirties;
       same = λ b k e low out. elim (row.whole k low out) [
         | inl longer ↦ page-extended len k b (omega (arith, e, longer))
         | inr whole ↦ page-truncated len k b whole

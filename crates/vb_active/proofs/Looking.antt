@@ -7,7 +7,7 @@ use Rattle.vb_disk.specs.States.{DiskState}
 use Rattle.vb_tree.specs.declared.operation.Op.{Op}
 use Rattle.vb_tree.specs.declared.operation.Op.TheVariants.{List as Listing, Stat}
 use Rattle.vb_tree.specs.declared.reply.Reply.{Reply}
-use Rattle.vb_tree.specs.declared.reply.Reply.TheVariants.{Names, Info}
+use Rattle.vb_tree.specs.declared.reply.Reply.TheVariants.{Done, Names, Info}
 use Rattle.vb_tree.specs.declared.reply.Refusal.{Refusal}
 use Rattle.vb_tree.specs.declared.reply.Refusal.TheVariants.{NotADir}
 use Rattle.vb_tree.specs.declared.tree.Kind.{Kind}
@@ -46,6 +46,8 @@ looked-performs told view op reply look answers =
       damage = tt;
       limits = refl;
       out = λ slot page reference out. out;
+      least = λ slot page some. inl some;
+      dirty = λ e slot page dirties. absurd (let same : reply ≡ Done = cc in false≢true (sym look ∙ ap is_done same));
     }
 
 folder_info : (kind : Kind) (len : ℕ) → kind ≡ Folder → info_of kind len ≡ Info Folder 0

@@ -62,6 +62,12 @@ same offset long len first last bytes old k span out = elim (cases_lt 0 (length 
 last-in : (offset count long len first last : ℕ) → IsSpan offset count (data_pages_of long) first last → len ≡ new_length offset count long → 0 < count → last ≤ data_pages_of len
 last-in offset count long len first last span is some = let size = is ∙ grown-length offset count long some in omega (arith, span.to some, size)
 
+dirtied : (offset count pages first last k : ℕ) → IsSpan offset count pages first last → first ≤ k → k < last → (0 < count) × (min pages (offset / 4096) ≤ k) × (k < data_pages_of (offset + count))
+dirtied offset count pages first last k span from to = elim (cases_lt 0 count) [
+  | inl some ↦ (some, omega (arith, span.from some, from), omega (arith, span.to some, to))
+  | inr none ↦ absurd (let zero_last = span.none (omega (arith, none)) in omega (arith, zero_last, to))
+]
+
 pub write-performs : (told : Option DiskState) (old new : ActiveState) (path : List (List ℕ)) (slot long len offset first last : ℕ) (bytes : List ℕ) (run : List (List ℕ)) → IsFileOf old.index.nodes path slot long → len ≡ new_length offset (length bytes) long → len ≤ longest_file
     → ((tree : List TreeEntry) (next : Option Refusal) → HasShapeOf old.index.nodes tree → refuse_unless_file tree path next ≡ next)
     → ((tree : List TreeEntry) → HasShapeOf old.index.nodes tree → refuse_unless_file tree path (refuse_resize old.index.limits tree path len) ≡ None)
@@ -83,6 +89,9 @@ write-performs told old new path slot long len offset first last bytes run file 
       effect = λ tree. refl;
       size = λ b e. length-written_over offset bytes b ∙ ap (new_length offset (length bytes)) e ∙ sym is;
       rows = rows;
+      at_path = refl;
+      dirtied = λ k from to. dirtied offset (length bytes) (data_pages_of long) first last k span from (subst (λ n. k < n) ends to);
+      dirties = λ k d. (omega (arith, span.from d.0, d.1), subst (λ n. k < n) (sym ends) (omega (arith, span.to d.0, d.2)));
       same = λ b k e low out. same offset long len first last bytes b k span (subst (λ n. (k < first) ⊎ (n ≤ k)) ends out);
     }) r
 

@@ -1,5 +1,5 @@
 -- What a read gives.
-use Rattle.std.proofs.Common.{◌≡◌, ℕ, ◌<◌, ◌≤◌, ◌+◌, ◌-◌, ◌/◌, ◌*◌, List, [], length, min, take, drop, Option, Some, None, Result, Ok, Err, refl, sym, ap, subst, ◌∙◌, arith}
+use Rattle.std.proofs.Common.{◌≡◌, ℕ, ◌<◌, ◌≤◌, ◌+◌, ◌-◌, ◌/◌, ◌*◌, List, [], length, min, take, drop, Option, Some, None, Result, Ok, Err, refl, sym, ap, subst, ◌∙◌, inl, arith}
 use Rattle.std.specs.Prelude.{IfOk, IfErr, OnErr}
 use Rattle.std.specs.Option.{option_or}
 use Rattle.std.specs.Result.{result_err}
@@ -38,6 +38,8 @@ refused-performs told view op reason refuses =
       damage = tt;
       limits = refl;
       out = λ slot page reference out. out;
+      least = λ slot page some. inl some;
+      dirty = λ e slot page dirties. absurd cc;
     }
 
 -- an error that leaves the view
@@ -49,6 +51,8 @@ failed-performs told view op error is =
       damage = is;
       limits = refl;
       out = λ slot page reference out. out;
+      least = λ slot page some. inl some;
+      dirty = λ e slot page dirties. absurd cc;
     }
 
 -- the bytes that were read
@@ -72,6 +76,8 @@ read-performs told view path slot len offset count end start bytes file allowed 
       damage = tt;
       limits = refl;
       out = λ slot page reference out. out;
+      least = λ slot page some. inl some;
+      dirty = λ e slot page dirties. absurd cc;
     }
 
 -- an error of the pages that were asked for

@@ -25,6 +25,7 @@ use Rattle.vb_index.proofs.Contents.{resized-contents}
 use Rattle.vb_index.proofs.Resizing.{file-refs}
 use Rattle.vb_pages.specs.Tables.{kept_page, key_of, run_at}
 use Rattle.vb_active.specs.Files.{IsFileOf}
+use Rattle.vb_active.specs.Needs.{Dirties, DirtiesPage, path_of_pages}
 use Rattle.vb_active.specs.Performs.{HasTreeOn, Performs}
 use Rattle.vb_active.specs.Replacing.{ArePagesFrom, Replaces}
 use Rattle.vb_active.specs.Views.{ActiveState, Backs, IsOut, due_page, ref_at}
@@ -45,7 +46,19 @@ pub record Rewrites (told : Option DiskState) (old : ActiveState) (op : Op) (pat
   pub effect : (tree : List TreeEntry) → effect_of tree op ≡ with_bytes_at path (change (bytes_in (entry_at path tree))) tree
   pub size : (bytes : List ℕ) → length bytes ≡ long → length (change bytes) ≡ len
   pub rows : (d : DiskState) (bytes : List ℕ) → told ≡ Some d → Backs d old → HasPages (due_page old d) slot bytes → length bytes ≡ long → ArePagesFrom first (change bytes) run
+  pub at_path : path_of_pages op ≡ path
+  pub dirtied : (k : ℕ) → first ≤ k → k < first + length run → DirtiesPage op long k
+  pub dirties : (k : ℕ) → DirtiesPage op long k → (first ≤ k) × (k < first + length run)
   pub same : (bytes : List ℕ) (k : ℕ) → length bytes ≡ long → k < data_pages_of len → (k < first) ⊎ (first + length run ≤ k) → page_of (change bytes) k ≡ page_of bytes k
+
+past_test : (slot n k : ℕ) → nat_le n k ≡ true → (slot == slot && nat_le n k) ≡ true
+past_test slot n k e = grind (arith, nat_tests)
+
+low_test : (n k : ℕ) → nat_le n k ≡ false → k < n
+low_test n k e = grind (arith, nat_tests)
+
+no_kept : {X : Type 0} (o : Option X) → o ≡ None → IsSome o → ⊥
+no_kept {X} o e some = let no : is_some {T = X} None ≡ true = sym (ap is_some e) ∙ some in false≢true no
 
 not_past : (slot n k : ℕ) → k < n → (slot == slot && nat_le n k) ≡ false
 not_past slot n k low = grind (arith, nat_tests)
@@ -110,6 +123,8 @@ rewritten-performs told old new op path slot long len first run change w r =
       damage = tt;
       limits = ap (λ (i : IndexState). i.limits) made;
       out = outs;
+      least = leasts;
+      dirty = λ e. dirty;
     } where
       made : new.index ≡ record old.index { nodes = set old.index.nodes slot (Some (resized len w.file.held)) }
       made = r.index w.file.held w.file.there
@@ -127,6 +142,33 @@ rewritten-performs told old new op path slot long len first run change w r =
                 let both = off-run old new path slot long len first k run w.file r low had out in
                 due-same old new d slot k both.0 both.1 ∙ has k (subst (λ n. k < data_pages_of n) (sym size) had) ∙ sym (w.same bytes k size low out))
           ]
+
+      leasts : (s k : ℕ) → IsSome (kept_page new.pages s k) → IsSome (kept_page old.pages s k) ⊎ Dirties old op s k
+      leasts s k some = elim (cases_Bool (s == slot)) [
+        | inr apart ↦ (let both = off-slot old new path slot long len first s k run w.file r apart in inl (ap is_some (sym both.0) ∙ some))
+        | inl h ↦ (
+            let same : s ≡ slot = (Decides-eqb s slot).0 h in
+            subst (λ n. IsSome (kept_page old.pages n k) ⊎ Dirties old op n k) (sym same) (mine (nat_le (data_pages_of len) k) refl (subst (λ n. IsSome (kept_page new.pages n k)) same some)))
+      ] where
+        mine : (b : Bool) → nat_le (data_pages_of len) k ≡ b → IsSome (kept_page new.pages slot k) → IsSome (kept_page old.pages slot k) ⊎ Dirties old op slot k
+        mine true e some = absurd (no_kept (kept_page new.pages slot k) (r.pages slot k ∙ ap (λ b. if b then None else option_or (run_at slot first run (key_of slot k)) (kept_page old.pages slot k)) (past_test slot (data_pages_of len) k e)) some)
+        mine false e some = elim (split first (length run) k) [
+          | inl inside ↦ inr (record { len = long; file = subst (λ p. IsFileOf old.index.nodes p slot long) (sym w.at_path) w.file; dirty = w.dirtied k inside.0 inside.1 })
+          | inr out ↦ inl (ap is_some (sym (here-kept old new slot len first k run r (low_test (data_pages_of len) k e) ∙ ap (λ o. option_or o (kept_page old.pages slot k)) (run-outside slot first slot k run out))) ∙ some)
+        ]
+
+      dirty : (s k : ℕ) → Dirties old op s k → IsSome (kept_page new.pages s k)
+      dirty s k d =
+          let file : IsFileOf old.index.nodes path s d.len = subst (λ p. IsFileOf old.index.nodes p s d.len) w.at_path d.file in
+          let both : Some s ≡ Some slot = sym file.at ∙ w.file.at in
+          let same : s ≡ slot = cc in
+          let holds : Some file.held ≡ Some w.file.held = sym file.there ∙ ap (held_at old.index.nodes) same ∙ w.file.there in
+          let one : file.held ≡ w.file.held = cc in
+          let size : d.len ≡ long = sym file.long ∙ ap (λ (h : Held). h.node.length) one ∙ w.file.long in
+          let inside = w.dirties k (subst (λ n. DirtiesPage op n k) size d.dirty) in
+          let low : k < data_pages_of len = let within = w.within in omega (arith, inside.1, within) in
+          subst (λ n. IsSome (kept_page new.pages n k)) (sym same)
+          (ap is_some (in-run old new slot len first k run (get_or run (k - first) []) r low inside.0 (slice_get-get_or run (k - first) [] (omega (arith, inside.0, inside.1)))))
 
       others : (d : DiskState) → KeepsOthers slot (due_page old d) (due_page new d)
       others d s k apart = let both = off-slot old new path slot long len first s k run w.file r (apart_test s slot apart) in due-same old new d s k both.0 both.1

@@ -1,5 +1,5 @@
 -- Which pages an operation needs, and when a page that it needs is damaged.
-use Rattle.std.specs.Prelude.{◌≡◌, ◌⊎◌, ℕ, ◌+◌, ◌/◌, ◌<◌, ◌≤◌, List, length, Option, Some, IsSome}
+use Rattle.std.specs.Prelude.{◌≡◌, ◌⊎◌, ℕ, ◌+◌, ◌/◌, ◌%◌, ◌<◌, ◌≤◌, min, List, length, Option, Some, IsSome}
 use Rattle.vb_block.specs.declared.digest.Ref.{Ref}
 use Rattle.vb_disk.specs.States.{DiskState}
 use Rattle.vb_pages.specs.declared.page_error.PageError.{PageError}
@@ -7,7 +7,7 @@ use Rattle.vb_pages.specs.declared.page_error.PageError.TheVariants.{Damaged, Di
 use Rattle.vb_pages.specs.Reads.{IsDamageOf}
 use Rattle.vb_tree.specs.declared.operation.Op.{Op}
 use Rattle.vb_tree.specs.declared.operation.Op.TheVariants.{Create, MakeDir, Write, Truncate, Rename, Remove, RemoveDir, Read, List as Listing, Stat}
-use Rattle.vb_index.specs.Nodes.{slot_at}
+use Rattle.vb_tree.specs.Trees.{data_pages_of}
 use Rattle.vb_active.specs.Files.{IsFileOf}
 use Rattle.vb_active.specs.Views.{ActiveState, Backs, IsOut}
 
@@ -53,6 +53,25 @@ NeedsPage (Read path offset count) len page = HasAsked offset count len page
 NeedsPage (Listing path) len page = ⊥
 NeedsPage (Stat path) len page = ⊥
 
+-- a truncate of a file of this length leaves a page in memory: a new one, or the last one where it is cut within
+abbrev pub IsCutPage : ℕ → ℕ → ℕ → Type 0
+IsCutPage kept len page = ((data_pages_of len ≤ page) × (page < data_pages_of kept))
+    ⊎ ((kept < len) × (0 < kept % 4096) × (page ≡ kept / 4096))
+
+-- an operation leaves a page of a file of this length in memory: a write those that it touches and the new ones of its gap
+abbrev pub DirtiesPage : Op → ℕ → ℕ → Type 0
+DirtiesPage (Create path) len page = ⊥
+DirtiesPage (MakeDir path) len page = ⊥
+DirtiesPage (Write path offset bytes) len page =
+    (0 < length bytes) × (min (data_pages_of len) (offset / 4096) ≤ page) × (page < data_pages_of (offset + length bytes))
+DirtiesPage (Truncate path kept) len page = IsCutPage kept len page
+DirtiesPage (Rename source target) len page = ⊥
+DirtiesPage (Remove path) len page = ⊥
+DirtiesPage (RemoveDir path) len page = ⊥
+DirtiesPage (Read path offset count) len page = ⊥
+DirtiesPage (Listing path) len page = ⊥
+DirtiesPage (Stat path) len page = ⊥
+
 -- a page that isn't in the table is damaged so: the place and the digest that is due are its reference's, and where the
 -- disk backs the view, its place is hurt
 pub record IsDamageAt (told : Option DiskState) (view : ActiveState) (slot page : ℕ) (place : ℕ) (kept found : List ℕ) : Type 0 where
@@ -92,6 +111,12 @@ path_of_pages (RemoveDir path) = path
 path_of_pages (Read path offset count) = path
 path_of_pages (Listing path) = path
 path_of_pages (Stat path) = path
+
+-- an operation leaves a page of the file at its path in memory
+pub record Dirties (view : ActiveState) (op : Op) (slot page : ℕ) : Type 0 where
+  pub len : ℕ
+  pub file : IsFileOf view.index.nodes (path_of_pages op) slot len
+  pub dirty : DirtiesPage op len page
 
 -- an operation's damage is that of a page which it needs, of the file at its path
 pub record IsDamageOn (told : Option DiskState) (view : ActiveState) (op : Op) (place : ℕ) (kept found : List ℕ) : Type 0 where

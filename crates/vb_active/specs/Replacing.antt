@@ -8,6 +8,7 @@ use Rattle.vb_index.specs.declared.held.Held.{Held}
 use Rattle.vb_index.specs.Changes.{resized}
 use Rattle.vb_index.specs.Nodes.{held_at}
 use Rattle.vb_pages.specs.Tables.{kept_page, key_of, run_at}
+use Rattle.vb_active.specs.Needs.{IsCutPage}
 use Rattle.vb_active.specs.Views.{ActiveState}
 
 -- the file in a slot has another length; the pages of a run are those of the slot from the first one on, it has none past its
@@ -37,4 +38,6 @@ pub record IsSpan (offset count pages first last : ℕ) : Type 0 where
 pub record IsRow (long len first : ℕ) (run : List (List ℕ)) : Type 0 where
   pub within : first + length run ≤ data_pages_of len
   pub grown : data_pages_of long < data_pages_of len → (first ≡ data_pages_of long) × (first + length run ≡ data_pages_of len)
+  pub dirtied : (k : ℕ) → first ≤ k → k < first + length run → IsCutPage len long k
+  pub dirties : (k : ℕ) → IsCutPage len long k → (first ≤ k) × (k < first + length run)
   pub whole : (k : ℕ) → k < data_pages_of len → (k < first) ⊎ (first + length run ≤ k) → (long ≤ len) ⊎ (4096 * k + 4096 ≤ len)
