@@ -1,6 +1,7 @@
 -- It doesn't matter how a log is cut into pieces.
-use Rattle.std.proofs.Common.{◌≡◌, ℕ, zero, suc, ◌<◌, ◌≤◌, ◌+◌, ◌-◌, min, List, [], ◌∷◌, ◌++◌, length, drop, take, Option, Some, None, Result, Ok, Err, refl, sym, ap, ◌∙◌, arith, append_assoc, append-nil}
-use Rattle.std.proofs.lemmas.List.{length-append, drop_at}
+use Rattle.std.proofs.Common.{◌≡◌, ℕ, zero, suc, ◌<◌, ◌≤◌, ◌+◌, ◌-◌, min, List, [], ◌∷◌, ◌++◌, length, drop, take, Option, Some, None, Result, Ok, Err, refl, sym, ap, ◌∙◌, arith, append_assoc, append-nil, subst}
+use Rattle.std.proofs.lemmas.List.{length-append, drop_at, drop-drop, take_at, take-append-drop}
+use Rattle.vb_cause.specs.Faults.{greatest_count}
 use Rattle.vb_msg.specs.declared.message.Msg.{Msg}
 use Rattle.vb_msg.specs.Frames.{body_of, frame}
 use Rattle.vb_msg.proofs.WholeFrames.{length-frame}
@@ -16,11 +17,11 @@ use Rattle.vb_cloudlog.specs.Replays.{ReplayState, new_replay, moved, stopped_at
 use Rattle.vb_cloudlog.proofs.Openings.{opening-frame, opening-nothing, whole-front_is, wrong-stays, wrong-some}
 
 -- what comes next
-abbrev next_of : ℕ → ℕ → List ℕ → ℕ → CloudState → ReplayState
+abbrev pub next_of : ℕ → ℕ → List ℕ → ℕ → CloudState → ReplayState
 next_of n p bytes len after = frames_taken n after (moved p len) (drop len bytes)
 
 -- by what begins the bytes
-opened : (n : ℕ) (k : CloudState) (p : ℕ) (bytes : List ℕ) (opening : Opening) → opening_of bytes ≡ opening → frames_taken (suc n) k p bytes ≡ opening_taken (next_of n p bytes) k p bytes opening
+pub opened : (n : ℕ) (k : CloudState) (p : ℕ) (bytes : List ℕ) (opening : Opening) → opening_of bytes ≡ opening → frames_taken (suc n) k p bytes ≡ opening_taken (next_of n p bytes) k p bytes opening
 opened n k p bytes opening is = ap (opening_taken (next_of n p bytes) k p bytes) is
 
 -- where no byte is left, nothing more is taken
@@ -75,7 +76,7 @@ enough (suc n) (suc l) k p bytes fn fl = by (λ k p bs a b. enough n l k p bs a 
     by again Wrong is = opened n k p bytes Wrong is ∙ sym (opened l k p bytes Wrong is)
     by again (Whole m) is = opened n k p bytes (Whole m) is ∙ by_step again m is (cloud_step k m) ∙ sym (opened l k p bytes (Whole m) is)
 
-all_of : (l : ℕ) (k : CloudState) (p : ℕ) (bytes : List ℕ) → length bytes ≤ l → frames_taken l k p bytes ≡ all_taken k p bytes
+pub all_of : (l : ℕ) (k : CloudState) (p : ℕ) (bytes : List ℕ) → length bytes ≤ l → frames_taken l k p bytes ≡ all_taken k p bytes
 unfolding all_taken
 all_of l k p bytes few = enough l (length bytes) k p bytes few (omega arith)
 
@@ -189,3 +190,62 @@ fed-piece r n m piece = sym (fed-in_two r (take n piece) (take m (drop n piece))
 -- a reader that stopped stays, whatever more it is fed
 pub stopped-stays : (r : ReplayState) (stop : Stop) (more : List ℕ) → r.stop ≡ Some stop → fed r more ≡ r
 stopped-stays r stop more is = ap (λ (s : Option Stop). fed_to r s more) is
+
+-- ---- the frames of a log
+
+-- a reader that goes on took so many bytes, and only those
+pub record IsTakenUpTo (n : ℕ) (k : CloudState) (p : ℕ) (bytes : List ℕ) (r : ReplayState) (j : ℕ) : Type 0 where
+  pub within : j ≤ length bytes
+  pub place : r.place ≡ p + j
+  pub rest : r.rest ≡ drop j bytes
+  pub front : frames_taken n k p (take j bytes) ≡ record { cloud = r.cloud; place = r.place; rest = []; stop = None }
+
+nothing-taken : (n : ℕ) (k : CloudState) (p : ℕ) (bytes : List ℕ) → IsTakenUpTo n k p bytes (record { cloud = k; place = p; rest = bytes; stop = None }) 0
+nothing-taken n k p bytes = record { within = omega arith; place = omega arith; rest = refl; front = none_left n k p [] (omega arith) }
+
+drops : (n m : ℕ) (xs : List ℕ) → drop (n + m) xs ≡ drop m (drop n xs)
+drops n m xs = sym (drop-drop m n xs)
+
+abbrev UpToFor : ℕ → Type 0
+UpToFor n = (k : CloudState) (p : ℕ) (bs : List ℕ) → p + length bs ≤ greatest_count → (frames_taken n k p bs).stop ≡ None → (j : ℕ) × IsTakenUpTo n k p bs (frames_taken n k p bs) j
+
+pub up_to : (n : ℕ) (k : CloudState) (p : ℕ) (bytes : List ℕ) → p + length bytes ≤ greatest_count → (frames_taken n k p bytes).stop ≡ None → (j : ℕ) × IsTakenUpTo n k p bytes (frames_taken n k p bytes) j
+up_to zero k p bytes few goes = (0, nothing-taken zero k p bytes)
+up_to (suc n) k p bytes few goes = by (λ k p bs a b. up_to n k p bs a b) (opening_of bytes) refl
+  where
+    abbrev-free : (r : ReplayState) → frames_taken (suc n) k p bytes ≡ r → (j : ℕ) × IsTakenUpTo (suc n) k p bytes r j → (j : ℕ) × IsTakenUpTo (suc n) k p bytes (frames_taken (suc n) k p bytes) j
+    abbrev-free r is there = subst (λ (r : ReplayState). (j : ℕ) × IsTakenUpTo (suc n) k p bytes r j) (sym is) there
+
+    by_step : UpToFor n → (m : Msg) → opening_of bytes ≡ Whole m → (step : Result CloudState CloudRefusal) → cloud_step k m ≡ step
+        → (step_taken (next_of n p bytes (length (frame m))) k p step).stop ≡ None → (j : ℕ) × IsTakenUpTo (suc n) k p bytes (step_taken (next_of n p bytes (length (frame m))) k p step) j
+    by_step again m is (Err refusal) step goes = absurd (cc goes)
+    by_step again m is (Ok after) step goes =
+        let len = length (frame m) in
+        let tail = drop len bytes in
+        let parts : bytes ≡ frame m ++ tail = whole-front_is bytes m is in
+        let long : length bytes ≡ len + length tail = ap (λ (bs : List ℕ). length bs) parts ∙ length-append (frame m) tail in
+        let place : moved p len ≡ p + len = omega (arith, few, long) in
+        let later = again after (moved p len) tail (omega (arith, place, few, long)) goes in
+        let j = later.0 in
+        let taken = later.1 in
+        let front : take (len + j) bytes ≡ frame m ++ take j tail =
+        take-in_two len j bytes ∙ ap (λ (xs : List ℕ). xs ++ take j tail) (ap (take len) parts ∙ take_at (frame m) tail len refl) in (
+          len + j,
+          record {
+            within = omega (arith, long, taken.within);
+            place = omega (arith, taken.place, place);
+            rest = taken.rest ∙ sym (drops len j bytes);
+            front =
+                ap (frames_taken (suc n) k p) front
+                ∙ opened n k p (frame m ++ take j tail) (Whole m) (opening-frame m (take j tail))
+                ∙ ap (step_taken (next_of n p (frame m ++ take j tail) len) k p) step
+                ∙ ap (frames_taken n after (moved p len)) (drop_at (frame m) (take j tail) len refl)
+                ∙ taken.front;
+          },
+        )
+
+    by : UpToFor n → (opening : Opening) → opening_of bytes ≡ opening → (j : ℕ) × IsTakenUpTo (suc n) k p bytes (frames_taken (suc n) k p bytes) j
+    by again Partial is = abbrev-free _ (opened n k p bytes Partial is) (0, nothing-taken (suc n) k p bytes)
+    by again Wrong is = absurd (cc (sym goes ∙ ap (λ (r : ReplayState). r.stop) (opened n k p bytes Wrong is)))
+    by again (Whole m) is =
+        abbrev-free _ (opened n k p bytes (Whole m) is) (by_step again m is (cloud_step k m) refl (sym (ap (λ (r : ReplayState). r.stop) (opened n k p bytes (Whole m) is)) ∙ goes))

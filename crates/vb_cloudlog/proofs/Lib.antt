@@ -3,3 +3,5 @@ pub mod Openings
 pub mod Feeding
 pub mod Steps
 pub mod Playing
+pub mod Loading
+pub mod Sending

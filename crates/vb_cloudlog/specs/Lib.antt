@@ -2,3 +2,5 @@ pub mod Messages
 pub mod Replays
 pub mod Playing
 pub mod Feeds
+pub mod Loads
+pub mod Sends

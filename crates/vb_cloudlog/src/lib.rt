@@ -1,9 +1,15 @@
 // A cloud kept as a log: a file of the frames of its messages, which is read again to have the cloud.
 #![tactic(auto)]
 
+mod append;
+mod log_cloud;
+mod log_refusal;
 mod play;
+mod reading;
 mod replay;
 mod stop;
 
+pub use log_cloud::LogCloud;
+pub use log_refusal::LogRefusal;
 pub use replay::{FeedError, Replay};
 pub use stop::Stop;

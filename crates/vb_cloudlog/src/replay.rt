@@ -60,6 +60,35 @@ impl Replay {
         }
     }
 
+    /// The cloud after the frames that were taken.
+    pub fn cloud(&self) -> &Cloud
+        ensures { result.now ≡ self.now.cloud }
+    {
+        &self.cloud
+    }
+
+    /// The cloud after the frames that were taken.
+    pub fn into_cloud(self) -> Cloud
+        ensures cloud { result ≡ self.cloud }
+        ensures sound { IsCloudState result }
+    {
+        self.cloud
+    }
+
+    /// How many bytes the frames have that were taken, at most 2^64 - 1.
+    pub fn place(&self) -> u64
+        ensures { result ≡ self.now.place }
+    {
+        self.place
+    }
+
+    /// The bytes behind these frames, less than a frame.
+    pub fn rest(&self) -> &[u8]
+        ensures { result.now ≡ self.now.rest }
+    {
+        self.rest.slice()
+    }
+
     /// Takes bytes from the front of a piece, and says how many. Ok takes the whole piece. A reader that stopped takes
     /// nothing more and answers the same. For want of memory the bytes taken stand, and the rest may be fed again.
     pub fn feed(&mut self, piece: &[u8]) -> (usize, Result<(), FeedError>)
