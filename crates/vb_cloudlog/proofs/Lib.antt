@@ -4,4 +4,4 @@ pub mod Feeding
 pub mod Steps
 pub mod Playing
 pub mod Loading
-pub mod Sending
+pub mod SentFrames

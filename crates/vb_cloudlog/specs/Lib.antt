@@ -4,3 +4,4 @@ pub mod Playing
 pub mod Feeds
 pub mod Loads
 pub mod Sends
+pub mod Laws

@@ -2,11 +2,13 @@
 #![tactic(auto)]
 
 mod append;
+mod link_calls;
 mod log_cloud;
 mod log_refusal;
 mod play;
 mod reading;
 mod replay;
+mod sending;
 mod stop;
 
 pub use log_cloud::LogCloud;

@@ -12,7 +12,7 @@ use vb_list::Items;
 
 /// What is told of the entry at a place.
 #[tactic(auto, using(crate::proofs::Places::telling))]
-pub(crate) fn told_entry(alloc: Global, cloud: &Cloud, i: u32) -> Result<ViewEntry, AllocError>
+pub fn told_entry(alloc: Global, cloud: &Cloud, i: u32) -> Result<ViewEntry, AllocError>
     requires { i < length cloud.now.tree }
     ensures { IfOk result (λ entry. entry_in i (view_of cloud.now) ≡ Some entry) }
 {
@@ -27,7 +27,7 @@ pub(crate) fn told_entry(alloc: Global, cloud: &Cloud, i: u32) -> Result<ViewEnt
 
 /// The bytes of the entry at a place, and the digest of its page with this number. None past the end of either.
 #[tactic(auto, using(crate::proofs::Places::holding))]
-pub(crate) fn held_page(cloud: &Cloud, i: u32, page: u32) -> Option<(&[u8], Digest)>
+pub fn held_page(cloud: &Cloud, i: u32, page: u32) -> Option<(&[u8], Digest)>
     ensures none { IsNone result → page_in i page cloud.now ≡ None }
     ensures within { IfSome result (λ held. 4096 * page ≤ length held.0.now) }
     ensures page { IfSome result (λ held. page_in i page cloud.now ≡ Some (page_at page held.0.now)) }

@@ -8,6 +8,7 @@ mod memory_calls;
 mod memory_cloud;
 mod view;
 
+pub use held::{held_page, told_entry};
 pub use link::Link;
 pub use link_error::LinkError;
 pub use memory_cloud::MemoryCloud;
