@@ -48,6 +48,14 @@ fn remove(alloc: Global, index: &mut Index, text: &[u8]) -> Option<u32> {
     index.detach(&path, Kind::File).ok()
 }
 
+// Moves what stands at a path to another one, and answers whether it could.
+fn rename(alloc: Global, index: &mut Index, source: &[u8], target: &[u8]) -> bool {
+    match (Path::parse(alloc, source), Path::parse(alloc, target)) {
+        (Ok(source), Ok(target)) => index.rename(alloc, &source, &target).is_ok(),
+        _ => false,
+    }
+}
+
 // Puts the reference of a page of a slot, where there is that page.
 fn refer(index: &mut Index, slot: u32, page: u32, reference: Ref) -> bool {
     let count = match index.refs(slot) {
@@ -111,6 +119,9 @@ fn first_byte(
 fn entries_stand_in_path_order(rt: HostRuntime) -> Result<(), Fail> {
     let alloc = rt.alloc();
     let mut index = Index::new(alloc, LIMITS)?;
+    let root = Frozen::of(alloc, &index, &PageTable::new(alloc))?;
+    assert_eq!(rt; root.count(), 0);
+    assert_eq!(rt; root.next_view(alloc)?.len(), 1);
     add(alloc, &mut index, b"/a!b", Kind::File).ok_or("a file")?;
     add(alloc, &mut index, b"/a", Kind::Folder).ok_or("a folder")?;
     add(alloc, &mut index, b"/a/b", Kind::File).ok_or("a file")?;
@@ -140,6 +151,7 @@ fn a_frozen_view_stays(rt: HostRuntime) -> Result<(), Fail> {
     let mut index = Index::new(alloc, LIMITS)?;
     let mut table = PageTable::new(alloc);
     let slot = add(alloc, &mut index, b"/f", Kind::File).ok_or("a file")?;
+    add(alloc, &mut index, b"/g", Kind::File).ok_or("a file")?;
     resize(alloc, &mut index, b"/f", 8192).ok_or("a length")?;
     table.put(slot, 0, page_of(alloc, 7)?)?;
     let placed = ref_of(alloc, 3, 9)?;
@@ -147,9 +159,10 @@ fn a_frozen_view_stays(rt: HostRuntime) -> Result<(), Fail> {
     write(alloc, &mut disk, 3, 9).ok_or("a write")?;
     let mut frozen = Frozen::of(alloc, &index, &table)?;
 
-    // The live view writes, cuts and removes.
+    // The live view writes, cuts, renames another file over this one, and removes.
     table.put(slot, 1, page_of(alloc, 5)?)?;
     resize(alloc, &mut index, b"/f", 1).ok_or("a length")?;
+    assert!(rt; rename(alloc, &mut index, b"/g", b"/f"));
     remove(alloc, &mut index, b"/f").ok_or("a removal")?;
     table.clear();
     assert_eq!(rt; first_byte(alloc, &frozen, &mut disk, 0, 0), Ok(Some(7)));
