@@ -9,3 +9,4 @@ pub mod SameNodes
 pub mod FreeOnes
 pub mod ChangedSlots
 pub mod References
+pub mod Sealed

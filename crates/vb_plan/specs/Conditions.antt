@@ -1,5 +1,5 @@
 -- When a plan can be made.
-use Rattle.std.specs.Prelude.{◌≡◌, ℕ, ◌<◌, ◌≤◌, ◌==◌, false, IsTrue, List, [], ◌∷◌, length, map, take, count_by, unwrap_or, Option, None, Some}
+use Rattle.std.specs.Prelude.{◌≡◌, ℕ, ◌<◌, ◌≤◌, ◌^◌, ◌==◌, false, IsTrue, List, [], ◌∷◌, length, map, take, count_by, unwrap_or, Option, None, Some}
 use Rattle.std.specs.List.{All, Contains, flat_map}
 use Rattle.vb_block.specs.declared.digest.Ref.{Ref}
 use Rattle.vb_inode.specs.declared.next_view.NextNode.{NextNode}
@@ -7,8 +7,10 @@ use Rattle.vb_inode.specs.declared.next_view.PageSource.{PageSource}
 use Rattle.vb_inode.specs.declared.next_view.PageSource.TheVariants.{Kept, Fresh}
 use Rattle.vb_inode.specs.Nodes.{is_free, may_be_named, may_have_length, may_have_parent}
 use Rattle.vb_index.specs.declared.held.Held.{Held}
-use Rattle.vb_index.specs.Nodes.{refs_of}
+use Rattle.vb_index.specs.Nodes.{held_at, refs_of}
+use Rattle.vb_inode.specs.Layout.{AreRefs}
 use Rattle.vb_tree.specs.Trees.{data_pages_of}
+use Rattle.vb_plan.specs.Maps.{maps_in}
 use Rattle.vb_plan.specs.Plans.{Basis, all_pages}
 
 -- a node of the next view, in a store of so many slots: it isn't a free one, a block may say what it says, its map
@@ -44,3 +46,11 @@ pub record CanPlan (basis : Basis) (next : List NextNode) : Type 0 where
   pub kept : All (λ r. Contains (flat_map refs_held basis.nodes) r) (kept_refs next)
   pub kept_once : (place : ℕ) → count_by (λ r. r.place == place) (kept_refs next) ≤ 1
   pub room : length (all_pages basis 0 next) ≤ length basis.free
+
+-- the blocks of what slots hold can be sealed: references of the committed map pages can stand in a block, free places
+-- are numbers of four bytes, and parents are slots of the store
+pub record CanSeal (basis : Basis) (next : List NextNode) : Type 0 where
+  pub few : length basis.nodes ≤ 2 ^ 32
+  pub maps : (slot : ℕ) → AreRefs (maps_in (held_at basis.nodes slot))
+  pub free : All (λ place. place < 2 ^ 32) basis.free
+  pub parents : All (λ x. x.node.parent < length basis.nodes) next

@@ -5,3 +5,4 @@ pub mod Conditions
 pub mod Seen
 pub mod Shown
 pub mod Laws
+pub mod Worked

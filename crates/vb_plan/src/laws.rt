@@ -7,8 +7,10 @@ ghost use Rattle.vb_inode.specs.declared.next_view.PageSource.{PageSource};
 ghost use Rattle.vb_inode.specs.declared.next_view.PageSource.TheVariants.{Fresh, Kept};
 ghost use Rattle.vb_inode.specs.declared.node.Node.{Node};
 ghost use Rattle.vb_space.specs.Spaces.{DataPlaces, IsFree};
+ghost use Rattle.vb_block.specs.Pages.{IsSealed};
+ghost use Rattle.vb_plan.specs.Worked.{AreLongPlans, AreSmallPlans};
 ghost use Rattle.vb_tree.specs.Trees.{data_pages_of};
-ghost use Rattle.vb_plan.specs.Conditions.{CanPlan};
+ghost use Rattle.vb_plan.specs.Conditions.{CanPlan, CanSeal};
 ghost use Rattle.vb_plan.specs.Laws.{block_next, changed_slots, digest_of, pages_of_next, place_of, slots_next};
 ghost use Rattle.vb_plan.specs.Plans.{node_at, plan_of, same_in_slot, Basis};
 ghost use Rattle.vb_plan.specs.declared.plan_page.PlanPage.{PlanPage};
@@ -61,4 +63,16 @@ pub fn references_are_kept_or_planned()
         → slice_get sources k ≡ Some (Fresh digest)
         → (r : Ref) × (slice_get (refs_from free taken sources) k ≡ Some r) × (r.digest ≡ digest)
         × Contains (pages_written page free taken number sources) (page (number + k) r) }
+{}
+
+/// The images are sealed, where references, places and parents are such as stand in blocks. It does nothing.
+pub fn images_of_plans_are_sealed()
+    ensures { (basis : Basis) (next : List NextNode) → CanPlan basis next → CanSeal basis next
+        → All IsSealed (plan_of basis next).images }
+{}
+
+/// Plans that were worked by hand. It does nothing.
+pub fn plans_are_as_worked()
+    ensures small { AreSmallPlans }
+    ensures long { AreLongPlans }
 {}

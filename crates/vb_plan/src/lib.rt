@@ -11,8 +11,9 @@ mod plan_page;
 
 pub use images::Images;
 pub use laws::{
-    images_are_of_changed_slots, no_more_pages_are_planned_than_files_take,
-    pages_go_to_the_first_free_places, references_are_kept_or_planned,
+    images_are_of_changed_slots, images_of_plans_are_sealed,
+    no_more_pages_are_planned_than_files_take, pages_go_to_the_first_free_places,
+    plans_are_as_worked, references_are_kept_or_planned,
 };
 pub use nodes::HeldNodes;
 pub use plan::Plan;
