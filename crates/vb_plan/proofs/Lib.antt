@@ -10,3 +10,4 @@ pub mod FreeOnes
 pub mod ChangedSlots
 pub mod References
 pub mod Sealed
+pub mod FirstPlan

@@ -24,11 +24,12 @@ pub record IsNextNode (slots : ℕ) (x : NextNode) : Type 0 where
   pub unplanned : x.node.maps ≡ []
   pub each_page : length x.pages ≡ data_pages_of x.node.length
 
--- the references that a node keeps
+-- the reference that a page keeps
 abbrev pub kept_ref : PageSource → List Ref
 kept_ref (Kept r) = r ∷ []
 kept_ref (Fresh digest) = []
 
+-- the references that all nodes keep
 abbrev pub kept_refs : List NextNode → List Ref
 kept_refs next = flat_map (λ x. flat_map kept_ref x.pages) next
 

@@ -95,14 +95,15 @@ pub record AreSmallPlans : Type 0 where
 abbrev pub run : ℕ → ℕ → List Ref
 run first count = map (λ place. at place 7) (range_with_len first count)
 
--- what a slot holds of a file of 114 pages, as it is written into an empty store of 266 blocks, and once its first page
--- was written anew
+-- what slot 1 holds of a file of 114 pages, as it is written into an empty store of 266 blocks
 abbrev pub long_held : List (Option Held)
 long_held = file_held 1 (97 ∷ []) 466944 (at 148 9 ∷ at 149 9 ∷ []) (run 34 114) ∷ []
 
+-- what it holds once the first page was written anew
 abbrev pub later_held : List (Option Held)
 later_held = file_held 1 (97 ∷ []) 466944 (at 151 9 ∷ at 149 9 ∷ []) (at 150 8 ∷ run 35 113) ∷ []
 
+-- what it holds once the file was cut to 113 pages
 abbrev pub cut_held : List (Option Held)
 cut_held = file_held 1 (97 ∷ []) 462848 (at 151 9 ∷ []) (at 150 8 ∷ run 35 112) ∷ []
 

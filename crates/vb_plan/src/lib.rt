@@ -18,3 +18,6 @@ pub use laws::{
 pub use nodes::HeldNodes;
 pub use plan::Plan;
 pub use plan_page::PlanPage;
+
+#[cfg(test)]
+mod tests;
