@@ -9,6 +9,7 @@ use crate::Stop;
 use crate::play::{Played, play};
 use std::alloc::Global;
 use std::marker::Model;
+use thiserror::Error;
 use vb_cloud::Cloud;
 use vb_tree::Bytes;
 
@@ -16,10 +17,12 @@ use vb_tree::Bytes;
 const LONGEST: usize = 4133;
 
 /// Why a piece was not taken as a whole.
-#[derive(Clone, Copy, Debug, PartialEq, Eq)]
+#[derive(Clone, Copy, Debug, PartialEq, Eq, Error)]
 pub enum FeedError {
     /// The log is read no further.
+    #[error("{stop}")]
     Stopped { stop: Stop },
+    #[error("no memory was found")]
     Memory,
 }
 
