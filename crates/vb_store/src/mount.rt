@@ -40,7 +40,8 @@ impl<D> Mount<D> {
         ensures relied { relied_on (mount_phase result) ≡ 0 }
         ensures known { (begun : DiskState) → IsDiskState begun → IsMounting (mount_phase result) begun begun }
         ensures calls { (begun : DiskState) → mount_calls_left (mount_phase result) begun begun ≡ mount_calls begun }
-        ensures beside { (views : List TreeView) (made : Bool) (d : DiskState) → RecoversOneOf views made d → IsMountedBeside views made (mount_phase result) d }
+        ensures beside { (views : List TreeView) (made : Bool) (d : DiskState) → RecoversOneOf views made d
+            → IsMountedBeside views made (mount_phase result) d }
     {
         let recover = Recover::start(alloc);
         let phase = MountPhase::Recovering(JournalPhase { recover });

@@ -44,14 +44,14 @@ pub fn a_mount_goes_on_beside_damage()
 /// How its phases follow each other: a recovery that is ready hands its disk to the homes, one that was refused ends the
 /// mount, an image that the journal takes is a node, and what was read to its end is the view.
 pub fn a_mount_hands_on_what_it_knows()
-    ensures homes { (views : List TreeView) (made : Bool) (d : DiskState) (homes : Homes) → IsDiskState d → IsBeside views made (AtReady homes.head) d
-        → homes.nodes ≡ [] → IsMountedBeside views made (Reading (ReadHome homes)) d }
-    ensures ended { (views : List TreeView) (made : Bool) (why : RecoverError) (stage : MountStage) (d : DiskState) → IsBeside views made (AtRefused why) d
-        → HasEnded stage why → IsMountedBeside views made (Reading stage) d }
-    ensures image { (views : List TreeView) (made : Bool) (head : Head) (count : ℕ) (images : List (List ℕ)) (d : DiskState) (place : ℕ) → IsDiskState d
-        → IsBeside views made (AtImage head count images) d
+    ensures homes { (views : List TreeView) (made : Bool) (d : DiskState) (homes : Homes) → IsDiskState d
+        → IsBeside views made (AtReady homes.head) d → homes.nodes ≡ [] → IsMountedBeside views made (Reading (ReadHome homes)) d }
+    ensures ended { (views : List TreeView) (made : Bool) (why : RecoverError) (stage : MountStage) (d : DiskState)
+        → IsBeside views made (AtRefused why) d → HasEnded stage why → IsMountedBeside views made (Reading stage) d }
+    ensures image { (views : List TreeView) (made : Bool) (head : Head) (count : ℕ) (images : List (List ℕ)) (d : DiskState) (place : ℕ)
+        → IsDiskState d → IsBeside views made (AtImage head count images) d
         → image_refusal head.nodes (journal_place head + length images) images (read_at d (journal_place head + length images)) ≡ None
         → result_err (node_or_refusal place (node_read head.nodes (read_at d (journal_place head + length images)))) ≡ None }
-    ensures view { (views : List TreeView) (made : Bool) (whole : Whole) (ready : ReadyView) (d : DiskState) → IsReadBeside views made (Finish whole) d
-        → ready.view.head ≡ whole.head → ready.view.index ≡ whole.index → IsMountedBeside views made (Ready ready) d }
+    ensures view { (views : List TreeView) (made : Bool) (whole : Whole) (ready : ReadyView) (d : DiskState)
+        → IsReadBeside views made (Finish whole) d → ready.view.head ≡ whole.head → ready.view.index ≡ whole.index → IsMountedBeside views made (Ready ready) d }
 {}
