@@ -1,11 +1,10 @@
 -- Steps in which no call of the disk failed.
-use Rattle.std.proofs.Common.{◌≡◌, ◌≤◌, ℕ, true, Option, Result, Ok, Err, IfErr, IsOk, inr, refl, subst}
+use Rattle.std.proofs.Common.{◌≡◌, ◌≤◌, ℕ, Option, Result, Ok, Err, IfErr, subst}
 use Rattle.vb_cause.specs.Causes.{HasCause, UsesFailures}
 use Rattle.vb_disk.specs.declared.disk_error.DiskError.{DiskError}
-use Rattle.vb_disk.specs.declared.disk_error.DiskError.TheVariants.{Failed, Memory as NoMemory}
+use Rattle.vb_disk.specs.declared.disk_error.DiskError.TheVariants.{Failed}
 use Rattle.vb_journal.specs.declared.recover_error.RecoverError.{RecoverError}
-use Rattle.vb_journal.specs.declared.recover_error.RecoverError.TheVariants.{DiskFault, Memory}
-use Rattle.vb_steps.specs.Steps.{CallsOnce}
+use Rattle.vb_journal.specs.declared.recover_error.RecoverError.TheVariants.{DiskFault}
 use Rattle.vb_store.specs.MountStages.{IsNoFault}
 
 -- no fault needs no cause

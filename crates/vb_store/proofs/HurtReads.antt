@@ -1,5 +1,5 @@
 -- Reads that differ from others only where a place is hurt have the same metadata, or are refused as damaged there.
-use Rattle.std.proofs.Common.{◌≡◌, ◌≢◌, ℕ, zero, suc, ◌+◌, Bool, true, false, cond, not, ◌==◌, eqb, List, [], ◌∷◌, ◌++◌, length, map, Option, Some, None, Result, Ok, Err, refl, sym, ap, subst, ◌∙◌, ◌⊎◌, inl, inr}
+use Rattle.std.proofs.Common.{◌≡◌, ℕ, zero, suc, ◌+◌, Bool, true, false, cond, not, ◌==◌, eqb, List, [], ◌∷◌, ◌++◌, length, map, Option, Some, None, Result, Ok, Err, refl, sym, ap, subst, ◌∙◌, ◌⊎◌, inl, inr}
 use Rattle.std.specs.Result.{result_err}
 use Rattle.std.specs.Str.{bytes_eq}
 use Rattle.std.proofs.lemmas.Bool.{false_from_ne_true}
@@ -8,7 +8,6 @@ use Rattle.sha2.specs.Sha256.{sha256}
 use Rattle.vb_block.specs.Pages.{IsSealed, seal_of, sealed_part}
 use Rattle.vb_block.specs.declared.digest.Ref.{Ref}
 use Rattle.vb_block.specs.declared.why.Why.TheVariants.{Slot}
-use Rattle.vb_disk.specs.Misses.{is_sealed}
 use Rattle.vb_head.specs.declared.head.Head.{Head}
 use Rattle.vb_head.specs.Heads.{count_of, head_read}
 use Rattle.vb_index.specs.Indexes.{IndexState}
@@ -17,8 +16,8 @@ use Rattle.vb_inode.specs.Reading.{map_read, node_read}
 use Rattle.vb_journal.specs.declared.recover_error.RecoverError.{RecoverError}
 use Rattle.vb_journal.specs.declared.recover_error.RecoverError.TheVariants.{Damaged, Unfit}
 use Rattle.vb_journal.specs.Images.{slot_of}
-use Rattle.vb_journal.specs.Notes.{head_place, journal_slots}
-use Rattle.vb_journal.specs.Recoveries.{choice_of, greater_place, image_refusal, journal_of, journal_place, or_refusal}
+use Rattle.vb_journal.specs.Notes.{head_place}
+use Rattle.vb_journal.specs.Recoveries.{choice_of, greater_place, journal_of, journal_place, or_refusal}
 use Rattle.vb_journal.specs.Shown.{good_of, image_over, pages_from}
 use Rattle.vb_journal.proofs.Found.{refused_image, unsealed_test}
 use Rattle.vb_journal.proofs.SameRecoveries.{choice_of-same}
@@ -27,9 +26,9 @@ use Rattle.vb_store.specs.declared.map_page.MapPage.{MapPage}
 use Rattle.vb_store.specs.Metadata.{Mapped, Metadata, Standing, after_claim, after_page, all_claimed_by, and_then, block_of, block_place, image_fault, images_fault, index_or_refusal, journal_fault, known_below, map_checked, mapped_from, maps_in, maps_left, metadata_from, metadata_of, no_claims, node_checked, node_or_refusal, nodes_left, refs_or_refusal, refuse, unless, with_refs_at}
 use Rattle.vb_store.specs.OneOf.{DifferWhereHurt, IsFoundHurt, IsHurtRead}
 use Rattle.vb_store.specs.Views.{limits_of}
-use Rattle.vb_store.proofs.CrashesOfMounts.{HasMetadata, has_metadata}
+use Rattle.vb_store.proofs.CrashesOfMounts.{has_metadata}
 use Rattle.vb_store.proofs.SameJournals.{not_false, or_refusal-none}
-use Rattle.vb_store.proofs.Chains.{and_then-ok, refuse-ok}
+use Rattle.vb_store.proofs.Chains.{refuse-ok}
 
 -- ---- one check after another
 

@@ -1,5 +1,5 @@
 -- A step of a mount keeps what is known beside damage.
-use Rattle.std.proofs.Common.{◌≡◌, ◌∙◌, ℕ, ◌+◌, ◌-◌, Bool, true, false, cond, ltb, List, [], ◌∷◌, ◌++◌, length, Option, Some, None, Result, Ok, Err, IsOk, IfErr, OnOk, refl, sym, ap, subst, ◌⊎◌, inl, inr}
+use Rattle.std.proofs.Common.{◌≡◌, ◌∙◌, ℕ, ◌+◌, ◌-◌, Bool, true, false, cond, ltb, List, [], ◌∷◌, ◌++◌, length, Option, Some, None, Result, Ok, Err, IfErr, OnOk, refl, sym, ap, subst, ◌⊎◌, inl, inr}
 use Rattle.std.specs.Result.{result_err}
 use Rattle.vb_disk.specs.declared.disk_error.DiskError.{DiskError}
 use Rattle.vb_disk.specs.States.{DiskCall, DiskState, IsDiskState, read_at}
@@ -7,7 +7,6 @@ use Rattle.vb_head.specs.declared.head.Head.{Head}
 use Rattle.vb_inode.specs.declared.node.Node.{Node}
 use Rattle.vb_inode.specs.Reading.{node_read}
 use Rattle.vb_index.specs.Indexes.{IndexState}
-use Rattle.vb_journal.specs.declared.journal.Journal.{Journal}
 use Rattle.vb_journal.specs.declared.recover.Recover.{Recover}
 use Rattle.vb_journal.specs.declared.recover.Ahead.{Ahead}
 use Rattle.vb_journal.specs.declared.recover_error.RecoverError.{RecoverError}
@@ -19,15 +18,14 @@ use Rattle.vb_journal.specs.Plans.{calls_from}
 use Rattle.vb_journal.specs.Recovering.{AskSize, due_in, due_of, first_change, images_in_view, nodes_in}
 use Rattle.vb_journal.specs.Recovers.{last_of, ready_head, recovery_stage}
 use Rattle.vb_journal.specs.RecoverMoves.{GoesOnFrom}
-use Rattle.vb_journal.specs.RecoverViews.{Reads, RecoverView, AtAsk, AtSettle, AtFirst, AtSecond, AtMend, AtSettleMend, AtImage, AtReplay, AtReady, AtRefused, after_image, answer_in, next, page_in, recover_call, replay_from, view_of}
+use Rattle.vb_journal.specs.RecoverViews.{RecoverView, AtAsk, AtSettle, AtFirst, AtSecond, AtMend, AtSettleMend, AtImage, AtReplay, AtReady, AtRefused, after_image, answer_in, next, page_in, recover_call, replay_from, view_of}
 use Rattle.vb_journal.proofs.Answering.{last_of-more}
 use Rattle.vb_journal.proofs.RecoverSteps.{lost}
 use Rattle.vb_steps.specs.declared.due.Got.{Got}
 use Rattle.vb_steps.specs.Calls.{MayFailTo, after, answer_of}
-use Rattle.vb_steps.specs.Steps.{Failed, Steps, Went}
+use Rattle.vb_steps.specs.Steps.{Steps}
 use Rattle.vb_store.specs.declared.mount_parts.Homes.{Homes}
 use Rattle.vb_store.specs.declared.mount_parts.Whole.{Whole}
-use Rattle.vb_store.specs.declared.mount_phase.JournalPhase.{JournalPhase}
 use Rattle.vb_store.specs.declared.mount_phase.MountPhase.{MountPhase}
 use Rattle.vb_store.specs.declared.mount_phase.MountPhase.TheVariants.{Recovering, Reading, Ready}
 use Rattle.vb_store.specs.declared.mount_stage.MountStage.{MountStage}
@@ -36,13 +34,13 @@ use Rattle.vb_store.specs.Beside.{IsBeside}
 use Rattle.vb_store.specs.Clear.{first_candidates}
 use Rattle.vb_store.specs.LentImages.{IsPhaseOf, fault_of_image, lent_fault}
 use Rattle.vb_store.specs.Metadata.{Metadata, node_or_refusal}
-use Rattle.vb_store.specs.MountMoves.{BeginsReading, FollowsMore, FollowsRecovery, GivesPage, IsSameMount, IsStageLike, MountGoesOn, ReadingGoesOn, RecoveryGoesOn, mount_answer, mount_call, read_call}
+use Rattle.vb_store.specs.MountMoves.{BeginsReading, FollowsMore, FollowsRecovery, IsSameMount, IsStageLike, MountGoesOn, ReadingGoesOn, RecoveryGoesOn, mount_answer, mount_call, read_call}
 use Rattle.vb_store.specs.Mounts.{HasMountEnded}
 use Rattle.vb_store.specs.MountStages.{HasEnded, StandsAfter, due_place, rest_of, rest_of_homes}
-use Rattle.vb_store.specs.MountsBeside.{IsMountedBeside, IsRefusedBeside, KeepsBeside}
+use Rattle.vb_store.specs.MountsBeside.{IsMountedBeside, KeepsBeside}
 use Rattle.vb_store.specs.OneOf.{RecoversOneOf, TreeView}
-use Rattle.vb_store.specs.Readings.{Closes, ClosesAfter, IsClosed, IsLikeWhole, ReadsOn}
-use Rattle.vb_store.specs.Settled.{IsReadBeside, LeadsTo, PassesRead, TakesIn, TakesPage}
+use Rattle.vb_store.specs.Readings.{Closes, IsClosed}
+use Rattle.vb_store.specs.Settled.{IsReadBeside, PassesRead, TakesPage}
 use Rattle.vb_store.proofs.PhasesBeside.{mount-ended, mount-homes, mount-image, mount-view}
 use Rattle.vb_store.proofs.ReadingsBeside.{reads-on}
 use Rattle.vb_store.proofs.StepsBeside.{IsBeside-failed, IsBeside-next}

@@ -1,11 +1,7 @@
 -- What the reads of homes and map pages leave, and what comes at their end.
-use Rattle.std.proofs.Common.{◌≡◌, ◌≢◌, ◌⊎◌, inl, inr, Bool, true, false, ℕ, ◌+◌, ◌≤◌, List, [], ◌∷◌, length, Option, Some, None, Result, Ok, Err, OnOk, IfOk, IfErr, refl, sym, ap, subst, ◌∙◌, arith}
+use Rattle.std.proofs.Common.{◌≡◌, ℕ, ◌+◌, List, [], ◌∷◌, length, Option, Some, None, Result, Ok, Err, OnOk, IfErr, refl, sym, ap, subst, ◌∙◌}
 use Rattle.std.specs.Option.{option_map}
-use Rattle.vb_cause.specs.Causes.{HasCause, UsesFailures}
-use Rattle.vb_cause.specs.Faults.{counted}
-use Rattle.vb_steps.specs.Steps.{CallsOnce}
 use Rattle.vb_disk.specs.States.{DiskState, read_at}
-use Rattle.vb_head.specs.declared.head.Head.{Head}
 use Rattle.vb_journal.specs.declared.recover.Ahead.{Ahead}
 use Rattle.vb_journal.specs.declared.recover.Ahead.TheVariants.{More, Ready as AllDone}
 use Rattle.vb_journal.specs.declared.recover_error.RecoverError.{RecoverError}
@@ -17,8 +13,8 @@ use Rattle.vb_store.specs.declared.mount_phase.MountPhase.TheVariants.{Recoverin
 use Rattle.vb_store.specs.declared.mount_stage.MountStage.{MountStage}
 use Rattle.vb_store.specs.declared.mount_stage.MountStage.TheVariants.{ReadHome, ReadMap, Finish, Refused}
 use Rattle.vb_store.specs.MountLists.{ComesAfter, ReadsFirst, places_due}
-use Rattle.vb_store.specs.MountStages.{StandsAfter, blocks_of, due_place}
-use Rattle.vb_store.specs.Mounts.{IsAheadOfMount, MakesNext, MountStandsAfter, blocks_of_mount, due_of_mount, mount_calls_left, place_reads}
+use Rattle.vb_store.specs.MountStages.{StandsAfter, due_place}
+use Rattle.vb_store.specs.Mounts.{MakesNext, MountStandsAfter, due_of_mount, mount_calls_left, place_reads}
 use Rattle.vb_store.specs.Readings.{Closes, FollowsRead, IsClosed, IsLikeWhole, ReadsOn}
 
 -- ---- the call

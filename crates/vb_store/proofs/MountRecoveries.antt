@@ -1,27 +1,22 @@
 -- The steps of a mount that are those of its recovery.
-use Rattle.std.proofs.Common.{◌≡◌, ℕ, ◌≤◌, true, List, [], ◌∷◌, ◌++◌, Option, Some, None, Ok, Err, refl, sym, ap, subst, ◌∙◌, arith}
+use Rattle.std.proofs.Common.{◌≡◌, List, [], ◌∷◌, ◌++◌, Option, Some, None, Err, refl, sym, ap, subst, ◌∙◌}
 use Rattle.std.specs.Prelude.{IsSome}
 use Rattle.vb_disk.specs.States.{DiskState, IsDiskState}
-use Rattle.vb_journal.specs.declared.recover.Ahead.{Ahead}
 use Rattle.vb_journal.specs.declared.recover.Recover.{Recover}
 use Rattle.vb_journal.specs.declared.recover_error.RecoverError.{RecoverError}
-use Rattle.vb_journal.specs.declared.recover_error.RecoverError.TheVariants.{NotAStore, Damaged, Unfit, Rebuilding, DiskFault, Memory}
 use Rattle.vb_journal.specs.declared.recover_stage.RecoverStage.{RecoverStage}
 use Rattle.vb_journal.specs.declared.recover_stage.RecoverStage.TheVariants.{Ask, Settle, ReadFirst, ReadSecond, Mend, SettleMend, ReadImage, Replay, Ready, Refused}
 use Rattle.vb_journal.specs.Outcomes.{recovery_on}
-use Rattle.vb_journal.specs.Recovering.{AskSize, Change, HasEnded, MakesCall, ReadPlace, RecoverCall, StandsAfter, blocks_of, due_of}
-use Rattle.vb_journal.specs.RecoveryCalls.{IsFirst, Leaves, recovery_calls_left}
-use Rattle.vb_journal.specs.Recovers.{AnswersRecovery, Lends, recovery_stage}
-use Rattle.vb_store.specs.declared.mount_parts.Refusal.{Refusal}
+use Rattle.vb_journal.specs.Recovering.{HasEnded, RecoverCall, due_of}
+use Rattle.vb_journal.specs.RecoveryCalls.{IsFirst, recovery_calls_left}
+use Rattle.vb_journal.specs.Recovers.{recovery_stage}
 use Rattle.vb_store.specs.declared.mount_phase.JournalPhase.{JournalPhase}
 use Rattle.vb_store.specs.declared.mount_phase.MountPhase.{MountPhase}
 use Rattle.vb_store.specs.declared.mount_phase.MountPhase.TheVariants.{Recovering, Reading, Ready as Mounted}
 use Rattle.vb_store.specs.declared.mount_stage.MountStage.TheVariants.{ReadHome, ReadMap, Finish, Refused as MountRefused}
 use Rattle.vb_store.specs.LentImages.{IsPhaseOf}
-use Rattle.vb_store.specs.Mounts.{HasMountEnded, IsJournalRead, IsMounting, MakesNext, MountStandsAfter, blocks_of_mount, due_of_mount, mount_calls_left, store_reads}
-use Rattle.vb_store.specs.NodesRead.{is_retried}
+use Rattle.vb_store.specs.Mounts.{HasMountEnded, IsJournalRead, IsMounting, mount_calls_left, store_reads}
 use Rattle.vb_store.specs.RecoveredStores.{metadata_on}
-use Rattle.vb_store.proofs.ImagesTaken.{no_fault_lent}
 use Rattle.vb_store.proofs.RecoveryRefusals.{refusal-told}
 
 -- ---- the list

@@ -1,6 +1,5 @@
 -- The most calls that may be left of a mount fall with each step.
-use Rattle.std.proofs.Common.{◌≡◌, ◌∙◌, ℕ, ◌+◌, ◌-◌, ◌*◌, ◌<◌, ◌≤◌, Bool, true, false, cond, ltb, [], List, length, Option, Some, None, Result, Ok, Err, IfErr, OnOk, refl, sym, ap, subst, arith}
-use Rattle.std.specs.Prelude.{IsSome}
+use Rattle.std.proofs.Common.{◌≡◌, ◌∙◌, ℕ, ◌+◌, ◌-◌, ◌<◌, ◌≤◌, false, cond, ltb, List, length, Option, Some, None, Result, Ok, Err, IfErr, OnOk, refl, sym, ap, subst, arith}
 use Rattle.vb_head.specs.declared.head.Head.{Head}
 use Rattle.vb_inode.specs.declared.node.Node.{Node}
 use Rattle.vb_disk.specs.declared.disk_error.DiskError.{DiskError}
@@ -28,7 +27,7 @@ use Rattle.vb_store.specs.MountFalls.{FallsTo, most_maps, most_mount_calls, most
 use Rattle.vb_store.specs.MountMoves.{FollowsMore, FollowsRecovery, IsSameMount, IsStageLike, MountGoesOn, mount_answer}
 use Rattle.vb_store.specs.Mounts.{due_of_mount}
 use Rattle.vb_store.specs.NodesRead.{is_retried}
-use Rattle.vb_store.specs.Readings.{Closes, FollowsRead, IsClosed, IsLikeWhole}
+use Rattle.vb_store.specs.Readings.{Closes, FollowsRead, IsClosed}
 use Rattle.vb_store.proofs.MountReadings.{no_refusal}
 use Rattle.vb_store.proofs.MountsMade.{none_more}
 

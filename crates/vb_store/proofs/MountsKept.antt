@@ -1,21 +1,20 @@
 -- What a step of a mount leaves whose call failed.
-use Rattle.std.proofs.Common.{◌≡◌, ◌∙◌, ◌≤◌, ℕ, Bool, false, true, ◌-◌, ◌+◌, List, [], ◌∷◌, ◌++◌, length, Option, Some, None, Result, Ok, Err, refl, sym, ap, subst, arith}
+use Rattle.std.proofs.Common.{◌≡◌, ◌∙◌, ◌≤◌, ℕ, Bool, ◌-◌, ◌+◌, List, ◌++◌, length, Option, Some, Err, refl, sym, ap, subst, arith}
 use Rattle.std.specs.Option.{option_map}
 use Rattle.std.specs.Prelude.{is_some}
 use Rattle.vb_disk.specs.declared.disk_error.DiskError.{DiskError}
 use Rattle.vb_disk.specs.declared.disk_error.DiskError.TheVariants.{Failed, Memory as NoMemory}
-use Rattle.vb_disk.specs.States.{DiskState, IsDiskState, read_at}
+use Rattle.vb_disk.specs.States.{DiskState, read_at}
 use Rattle.vb_head.specs.declared.head.Head.{Head}
 use Rattle.vb_inode.specs.declared.node.Node.{Node}
 use Rattle.vb_journal.specs.declared.recover.Ahead.{Ahead}
-use Rattle.vb_journal.specs.declared.recover.Recover.{Recover}
 use Rattle.vb_journal.specs.declared.recover_error.RecoverError.{RecoverError}
 use Rattle.vb_journal.specs.declared.recover_error.RecoverError.TheVariants.{Memory}
 use Rattle.vb_journal.specs.Interruptions.{is_synced_in}
 use Rattle.vb_journal.specs.Notes.{slots_noted}
 use Rattle.vb_journal.specs.Recoveries.{error_from}
-use Rattle.vb_journal.specs.Recovering.{MakesCall, ReadPlace, RecoverCall, due_in, due_of, RecoversTo}
-use Rattle.vb_journal.specs.RecoveryCalls.{calls_left_in, recovery_calls_left}
+use Rattle.vb_journal.specs.Recovering.{MakesCall, ReadPlace, RecoverCall, due_in}
+use Rattle.vb_journal.specs.RecoveryCalls.{calls_left_in}
 use Rattle.vb_journal.specs.Recovers.{recovery_stage}
 use Rattle.vb_journal.specs.RecoverMoves.{IsSameRecovery}
 use Rattle.vb_journal.specs.RecoverViews.{recover_call}
@@ -27,14 +26,13 @@ use Rattle.vb_steps.specs.Calls.{Rest, SeenStays as SeenAfter, is_due}
 use Rattle.vb_steps.specs.Steps.{CallsOnce, Steps}
 use Rattle.vb_steps.proofs.StepsLike.{stays-as}
 use Rattle.vb_store.specs.declared.mount_parts.Homes.{Homes}
-use Rattle.vb_store.specs.declared.mount_phase.JournalPhase.{JournalPhase}
 use Rattle.vb_store.specs.declared.mount_phase.MountPhase.{MountPhase}
 use Rattle.vb_store.specs.declared.mount_phase.MountPhase.TheVariants.{Recovering, Reading, Ready}
 use Rattle.vb_store.specs.declared.mount_stage.MountStage.{MountStage}
 use Rattle.vb_store.specs.declared.mount_stage.MountStage.TheVariants.{ReadHome, ReadMap, Finish, Refused}
 use Rattle.vb_store.specs.MountLists.{places_due, places_of_homes}
-use Rattle.vb_store.specs.MountMoves.{IsRecoveryLike, IsReadingLike, IsSameMount, IsStageLike, mount_call}
-use Rattle.vb_store.specs.Mounts.{AreSoundTo, HasMountEnded, IsJournalRead, IsMounting, MakesNext, MountStandsAfter, MountsOn, MountsTo, blocks_of_mount, due_of_mount, mount_calls_left, place_reads, relied_on, store_reads}
+use Rattle.vb_store.specs.MountMoves.{IsSameMount, IsStageLike, mount_call}
+use Rattle.vb_store.specs.Mounts.{AreSoundTo, HasMountEnded, IsMounting, MakesNext, MountStandsAfter, MountsOn, MountsTo, blocks_of_mount, due_of_mount, mount_calls_left, place_reads, relied_on, store_reads}
 use Rattle.vb_store.specs.MountStages.{due_place}
 use Rattle.vb_store.proofs.HandedOver.{ready-mounts, stage-mounts}
 use Rattle.vb_store.proofs.MountCrashes.{recovery-mounts}

@@ -1,7 +1,7 @@
 -- What a step of a mount leaves whose call was made.
 use Rattle.std.proofs.Common.{◌≡◌, ◌≢◌, ◌⊎◌, inl, inr, ◌∙◌, ◌≤◌, ℕ, Bool, true, false, List, [], length, Option, Some, None, Result, Ok, Err, refl, sym, ap, subst, arith}
 use Rattle.std.specs.Option.{option_map}
-use Rattle.std.specs.Prelude.{IfErr, IsErrOf, OnOk, is_some}
+use Rattle.std.specs.Prelude.{IfErr, OnOk, is_some}
 use Rattle.vb_cause.specs.Faults.{counted}
 use Rattle.vb_disk.specs.declared.disk_error.DiskError.TheVariants.{Memory as NoMemory}
 use Rattle.vb_disk.specs.States.{DiskState, IsDiskState, read_at}
@@ -13,8 +13,7 @@ use Rattle.vb_journal.specs.declared.recover_error.RecoverError.{RecoverError}
 use Rattle.vb_journal.specs.declared.recover_error.RecoverError.TheVariants.{NotAStore, Damaged, Unfit, Rebuilding, DiskFault, Memory}
 use Rattle.vb_journal.specs.Interruptions.{is_synced_in}
 use Rattle.vb_journal.specs.Notes.{HasNoted, slots_noted, slots_with}
-use Rattle.vb_journal.specs.Outcomes.{recovery_on}
-use Rattle.vb_journal.specs.Recovering.{IsRecovering, MakesCall, ReadPlace, RecoverCall, RecoversTo, SeenStays, TakesImage, due_of, images_by, nodes_of}
+use Rattle.vb_journal.specs.Recovering.{IsRecovering, MakesCall, ReadPlace, RecoverCall, RecoversTo, SeenStays, TakesImage, due_of, images_by}
 use Rattle.vb_journal.specs.RecoveryCalls.{IsFirst, recovery_calls_left}
 use Rattle.vb_journal.specs.Recovers.{Lends, lent_image, recovery_stage}
 use Rattle.vb_journal.specs.RecoverMoves.{GoesOn}
@@ -36,12 +35,11 @@ use Rattle.vb_store.specs.declared.mount_phase.MountPhase.TheVariants.{Recoverin
 use Rattle.vb_store.specs.declared.mount_stage.MountStage.{MountStage}
 use Rattle.vb_store.specs.declared.mount_stage.MountStage.TheVariants.{ReadHome, ReadMap, Finish, Refused}
 use Rattle.vb_store.specs.LentImages.{IsPhaseOf, lent_fault}
-use Rattle.vb_store.specs.MountMoves.{BeginsReading, FollowsMore, FollowsRecovery, GivesPage, MountGoesOn, ReadingGoesOn, RecoveryGoesOn, mount_answer, mount_call, read_call, stage_answer}
+use Rattle.vb_store.specs.MountMoves.{BeginsReading, FollowsMore, FollowsRecovery, GivesPage, MountGoesOn, mount_answer, mount_call, read_call}
 use Rattle.vb_store.specs.Mounts.{AreSoundTo, HasMountEnded, IsJournalRead, IsMounting, MakesNext, MountStandsAfter, MountsOn, MountsTo, blocks_of_mount, due_of_mount, mount_calls_left, relied_on, store_reads}
-use Rattle.vb_store.specs.MountStages.{IsNoFault, blocks_of, due_place, rest_on}
+use Rattle.vb_store.specs.MountStages.{IsNoFault, blocks_of, due_place}
 use Rattle.vb_store.specs.NodesRead.{is_retried}
-use Rattle.vb_store.specs.Readings.{Closes, FollowsRead, IsClosed, ReadsOn}
-use Rattle.vb_store.specs.RecoveredStores.{metadata_on}
+use Rattle.vb_store.specs.Readings.{Closes, IsClosed}
 use Rattle.vb_store.proofs.HandedOver.{AreFirst, begins-known, begins-list, reading-mounts, ready-fault, ready-mounts}
 use Rattle.vb_store.proofs.ImagesTaken.{refused-after, sound-after}
 use Rattle.vb_store.proofs.MountCrashes.{recovery-mounts}

@@ -1,12 +1,10 @@
 -- A mount beside damage, from phase to phase.
-use Rattle.std.proofs.Common.{◌≡◌, ℕ, zero, suc, ◌+◌, ◌<◌, Bool, List, [], ◌∷◌, ◌++◌, length, Option, Some, None, Result, Ok, Err, refl, sym, ap, subst, ◌∙◌, ◌⊎◌, inl, inr, arith}
+use Rattle.std.proofs.Common.{◌≡◌, ℕ, zero, suc, ◌+◌, ◌<◌, Bool, List, [], ◌∷◌, ◌++◌, length, None, Result, Ok, Err, refl, sym, ap, subst, ◌∙◌, inl, inr, arith}
 use Rattle.std.specs.Result.{result_err}
 use Rattle.vb_disk.specs.Crashes.{MayCrashTo, damaged}
 use Rattle.vb_disk.specs.States.{DiskState, IsDiskState, read_at}
 use Rattle.vb_head.specs.declared.head.Head.{Head}
-use Rattle.vb_head.specs.declared.head.State.{State}
 use Rattle.vb_head.specs.Heads.{count_of}
-use Rattle.vb_index.specs.declared.held.Held.{Held}
 use Rattle.vb_index.specs.Indexes.{IndexState}
 use Rattle.vb_inode.specs.declared.node.Node.{Node}
 use Rattle.vb_inode.specs.declared.errors.NodeError.{NodeError}
@@ -17,7 +15,6 @@ use Rattle.vb_journal.specs.Images.{image_at}
 use Rattle.vb_journal.specs.Recoveries.{choice_of, image_refusal, journal_of, journal_place}
 use Rattle.vb_journal.specs.Recovers.{recovery_stage}
 use Rattle.vb_journal.specs.RecoverViews.{AtAsk, AtImage, AtReady, AtRefused, RecoverView, view_of}
-use Rattle.vb_journal.specs.Shown.{pages_from}
 use Rattle.vb_journal.proofs.ChoicesOf.{choices-crashed, choices-damaged}
 use Rattle.vb_journal.proofs.JournalReads.{image_at-pages_from, length-pages_from}
 use Rattle.vb_store.specs.declared.mount_parts.Homes.{Homes}
@@ -27,15 +24,14 @@ use Rattle.vb_store.specs.declared.mount_phase.MountPhase.{MountPhase}
 use Rattle.vb_store.specs.declared.mount_phase.MountPhase.TheVariants.{Recovering, Reading, Ready}
 use Rattle.vb_store.specs.declared.mount_phase.ReadyView.{ReadyView}
 use Rattle.vb_store.specs.declared.mount_stage.MountStage.{MountStage}
-use Rattle.vb_store.specs.declared.mount_stage.MountStage.TheVariants.{ReadHome, ReadMap, Finish, Refused}
-use Rattle.vb_store.specs.Beside.{HasImagesBeside, HasReason, IsBeside}
+use Rattle.vb_store.specs.declared.mount_stage.MountStage.TheVariants.{ReadHome, Finish}
+use Rattle.vb_store.specs.Beside.{HasReason, IsBeside}
 use Rattle.vb_store.specs.Clear.{first_candidates}
 use Rattle.vb_store.specs.Metadata.{Metadata, image_fault, images_fault, journal_fault, node_or_refusal}
 use Rattle.vb_store.specs.MountStages.{HasEnded}
-use Rattle.vb_store.specs.MountsBeside.{IsMountedBeside, IsReadyBeside, IsRefusedBeside}
+use Rattle.vb_store.specs.MountsBeside.{IsMountedBeside, IsRefusedBeside}
 use Rattle.vb_store.specs.OneOf.{RecoversOneOf, TreeView}
 use Rattle.vb_store.specs.Settled.{IsReadBeside}
-use Rattle.vb_store.specs.Views.{ViewState}
 use Rattle.vb_store.proofs.CrashesOfMounts.{has_metadata, one_head}
 use Rattle.vb_store.proofs.JournalBeside.{image-candidate}
 use Rattle.vb_store.proofs.MountRests.{ended_rest}

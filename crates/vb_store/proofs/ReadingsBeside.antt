@@ -1,24 +1,21 @@
 -- What is read of a settled disk, a place at a time, leads to the view that it is settled for.
-use Rattle.std.proofs.Common.{◌≡◌, ◌≢◌, ℕ, zero, suc, ◌+◌, ◌-◌, ◌*◌, ◌<◌, ◌≤◌, Bool, true, false, cond, eqb, not, ◌==◌, List, [], ◌∷◌, ◌++◌, length, drop, Option, Some, None, Result, Ok, Err, IsOk, refl, sym, ap, subst, ◌∙◌, ◌⊎◌, inl, inr, arith}
+use Rattle.std.proofs.Common.{◌≡◌, ◌≢◌, ℕ, zero, suc, ◌+◌, ◌-◌, ◌*◌, ◌<◌, Bool, false, cond, eqb, List, [], ◌∷◌, ◌++◌, length, drop, Option, Some, Result, Ok, Err, IsOk, refl, sym, ap, subst, ◌∙◌, inl, inr, arith}
 use Rattle.std.specs.List.{All, Contains}
 use Rattle.std.proofs.lemmas.Bool.{cond-true, eq-eqb}
 use Rattle.std.proofs.lemmas.List.Elements.{All-head}
 use Rattle.sha2.specs.Sha256.{sha256}
 use Rattle.vb_block.specs.Pages.{IsSealed, seal_of, sealed_part}
 use Rattle.vb_block.specs.declared.digest.Ref.{Ref}
-use Rattle.vb_block.specs.declared.why.Why.TheVariants.{Slot}
-use Rattle.vb_disk.specs.declared.cell.Cell.{Cell}
 use Rattle.vb_disk.specs.Crashes.{damaged}
 use Rattle.vb_disk.specs.States.{DiskState, IsDiskState, read_at}
 use Rattle.vb_head.specs.declared.head.Head.{Head}
 use Rattle.vb_head.specs.declared.head.State.{State}
 use Rattle.vb_head.specs.declared.head.State.TheVariants.{Closed}
 use Rattle.vb_head.specs.Heads.{IsHead, count_of}
-use Rattle.vb_index.specs.declared.held.Held.{Held}
 use Rattle.vb_index.specs.Indexes.{IndexState}
 use Rattle.vb_inode.specs.declared.node.Node.{Node}
 use Rattle.vb_journal.specs.declared.recover_error.RecoverError.{RecoverError}
-use Rattle.vb_journal.specs.declared.recover_error.RecoverError.TheVariants.{NotAStore, Damaged, Unfit, Rebuilding, DiskFault, Memory}
+use Rattle.vb_journal.specs.declared.recover_error.RecoverError.TheVariants.{Damaged}
 use Rattle.vb_journal.specs.Notes.{head_place}
 use Rattle.vb_journal.specs.Outcomes.{IsHurt}
 use Rattle.vb_journal.specs.Progress.{IsAtRest}
@@ -34,11 +31,11 @@ use Rattle.vb_store.specs.declared.mount_stage.MountStage.{MountStage}
 use Rattle.vb_store.specs.declared.mount_stage.MountStage.TheVariants.{ReadHome, ReadMap, Finish, Refused}
 use Rattle.vb_store.specs.Beside.{HasOneHead, HasReason, RestsBeside, WasRead}
 use Rattle.vb_store.specs.Clear.{first_candidates}
-use Rattle.vb_store.specs.Metadata.{Mapped, Metadata, Standing, after_page, all_claimed_by, and_then, block_of, block_place, index_or_refusal, known_below, map_checked, mapped_from, maps_in, maps_left, metadata_from, metadata_of, no_claims, node_checked, nodes_left, with_refs_at}
-use Rattle.vb_store.specs.MountStages.{HasEnded, IsSameAnswer, due_place, home_of, metadata_at, rest_of, rest_of_homes, rest_of_index, rest_of_maps, rest_of_table}
+use Rattle.vb_store.specs.Metadata.{Mapped, Metadata, Standing, after_page, all_claimed_by, and_then, block_of, block_place, index_or_refusal, known_below, map_checked, mapped_from, maps_in, metadata_from, metadata_of, node_checked, nodes_left, with_refs_at}
+use Rattle.vb_store.specs.MountStages.{HasEnded, due_place, home_of, metadata_at, rest_of, rest_of_homes, rest_of_index, rest_of_maps, rest_of_table}
 use Rattle.vb_store.specs.OneOf.{IsHurtRead, RecoversOneOf, TreeView}
-use Rattle.vb_store.specs.Recovered.{Recovers, Recovery, entries_read, placed_in, recovered, recovered_at, recovered_from}
-use Rattle.vb_store.specs.Settled.{IsReadBeside, IsSettled, IsSettledFor, LeadsTo, TakesIn, TakesPage}
+use Rattle.vb_store.specs.Recovered.{Recovers, entries_read, placed_in, recovered, recovered_at, recovered_from}
+use Rattle.vb_store.specs.Settled.{IsReadBeside, IsSettled, IsSettledFor, LeadsTo, TakesPage}
 use Rattle.vb_store.specs.Views.{limits_of}
 use Rattle.vb_store.proofs.Chains.{and_then-ok}
 use Rattle.vb_store.proofs.CrashesOfMounts.{has_metadata, one_head}

@@ -1,5 +1,5 @@
 -- The most reads that may be left of a mount fall with each read.
-use Rattle.std.proofs.Common.{◌≡◌, ◌∙◌, ℕ, suc, ◌+◌, ◌-◌, ◌*◌, ◌<◌, ◌≤◌, Bool, true, false, cond, ltb, List, [], ◌∷◌, ◌++◌, length, drop, get_or, Option, Some, None, Result, Ok, Err, OnOk, refl, sym, ap, subst, arith}
+use Rattle.std.proofs.Common.{◌≡◌, ◌∙◌, ℕ, suc, ◌+◌, ◌-◌, ◌*◌, ◌<◌, ◌≤◌, Bool, true, false, cond, ltb, List, [], ◌∷◌, ◌++◌, length, drop, get_or, Option, Some, None, Result, Ok, Err, OnOk, refl, sym, ap, arith}
 use Rattle.std.proofs.lemmas.Bool.{le-ltb, lt-ltb, ltb-false}
 use Rattle.std.proofs.lemmas.List.{length-append, length_push}
 use Rattle.std.proofs.lemmas.List.Sums.{sum_by-cons}
@@ -10,19 +10,17 @@ use Rattle.vb_index.specs.Indexes.{IndexState}
 use Rattle.vb_index.specs.Nodes.{held_at, pages_in, pages_of_slot}
 use Rattle.vb_inode.specs.declared.node.Node.{Node}
 use Rattle.vb_journal.specs.declared.recover_error.RecoverError.{RecoverError}
-use Rattle.vb_nodes.specs.Claiming.{ClaimsState, claim_answer, is_claimed}
+use Rattle.vb_nodes.specs.Claiming.{ClaimsState, claim_answer}
 use Rattle.vb_tree.specs.Trees.{data_pages_of, map_pages_of}
 use Rattle.std.specs.List.{flat_map}
 use Rattle.vb_store.specs.declared.map_page.MapPage.{MapPage}
 use Rattle.vb_store.specs.declared.mount_parts.Claimed.{Claimed}
 use Rattle.vb_store.specs.declared.mount_parts.Homes.{Homes}
-use Rattle.vb_store.specs.declared.mount_parts.Whole.{Whole}
 use Rattle.vb_store.specs.declared.mount_stage.MountStage.{MountStage}
 use Rattle.vb_store.specs.declared.mount_stage.MountStage.TheVariants.{ReadHome, ReadMap, Finish, Refused}
 use Rattle.vb_store.specs.Metadata.{maps_from, maps_in, maps_of, maps_of_node}
-use Rattle.vb_store.specs.MountFalls.{FallsTo, LeavesMaps, most_maps, most_reads_left}
+use Rattle.vb_store.specs.MountFalls.{FallsTo, LeavesMaps, most_maps}
 use Rattle.vb_store.specs.Namings.{IsIndexOf}
-use Rattle.vb_store.specs.Views.{data_start}
 use Rattle.vb_store.proofs.MountRests.{drop-next}
 
 -- ---- there are no more map pages than may be

@@ -1,7 +1,6 @@
 -- Where memory ran out for what was read, a mount stays.
 use Rattle.std.proofs.Common.{◌≡◌, ◌≤◌, arith, false, true, List, ℕ, Result, Ok, Err, IfErr, IfOk, OnOk, refl, sym, ap, subst, ◌∙◌}
 use Rattle.std.specs.Prelude.{IsErrOf, IsOk}
-use Rattle.vb_inode.specs.declared.node.Node.{Node}
 use Rattle.vb_journal.specs.declared.recover_error.RecoverError.{RecoverError}
 use Rattle.vb_journal.specs.declared.recover_error.RecoverError.TheVariants.{NotAStore, Damaged, Unfit, Rebuilding, DiskFault, Memory}
 use Rattle.vb_store.specs.declared.mount_parts.Claimed.{Claimed}

@@ -1,5 +1,5 @@
 -- The image of the journal that a recovery lends, and how a mount stops at an error.
-use Rattle.std.specs.Prelude.{◌≡◌, ℕ, ◌+◌, Bool, true, false, List, length, Option, Some, None}
+use Rattle.std.specs.Prelude.{◌≡◌, ℕ, ◌+◌, List, length, Option, Some, None}
 use Rattle.std.specs.Result.{result_err}
 use Rattle.vb_inode.specs.Reading.{node_read}
 use Rattle.vb_journal.specs.declared.recover.Recover.{Recover}
@@ -9,8 +9,6 @@ use Rattle.vb_journal.specs.Recovers.{lent_image, recovery_stage}
 use Rattle.vb_store.specs.declared.mount_phase.MountPhase.{MountPhase}
 use Rattle.vb_store.specs.declared.mount_phase.MountPhase.TheVariants.{Recovering, Reading, Ready}
 use Rattle.vb_store.specs.Metadata.{node_or_refusal}
-use Rattle.vb_store.specs.Mounts.{HasMountEnded}
-use Rattle.vb_store.specs.NodesRead.{is_retried}
 
 -- why the node of an image is refused that is the last of so many, in a store with so many nodes
 abbrev pub fault_of_image : Option (List ℕ) → Option ℕ → ℕ → Option RecoverError

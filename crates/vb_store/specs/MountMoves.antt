@@ -1,7 +1,6 @@
 -- A mount as a machine: which call is due, and what it may be after what the call gave.
 use Rattle.std.specs.Prelude.{◌≡◌, ◌≤◌, ℕ, false, List, [], Option, Some, None, Result, Ok, Err, IfErr, OnOk, refl}
 use Rattle.vb_disk.specs.States.{DiskState}
-use Rattle.vb_head.specs.declared.head.Head.{Head}
 use Rattle.vb_journal.specs.declared.recover.Ahead.{Ahead}
 use Rattle.vb_journal.specs.declared.recover.Ahead.TheVariants.{More, Ready as AllDone}
 use Rattle.vb_journal.specs.declared.recover.Recover.{Recover}

@@ -1,5 +1,5 @@
 -- Stores that are being read or were mounted: what their views are to the candidates of their disk.
-use Rattle.std.specs.Prelude.{◌≡◌, ◌⊎◌, ℕ, ◌+◌, Bool, List, length, Option, Some, None, Result, Ok, Err, IsOk}
+use Rattle.std.specs.Prelude.{◌≡◌, ◌⊎◌, ℕ, ◌+◌, Bool, List, length, Ok, IsOk}
 use Rattle.std.specs.List.{Contains}
 use Rattle.vb_disk.specs.States.{DiskState}
 use Rattle.vb_head.specs.declared.head.Head.{Head}

@@ -1,5 +1,5 @@
 -- Views: the committed state of a store in memory, and the data places that it uses.
-use Rattle.std.specs.Prelude.{◌≡◌, ◌↔◌, ℕ, ◌+◌, ◌-◌, ◌*◌, ◌/◌, ◌<◌, ◌≤◌, ◌==◌, List, [], ◌∷◌, ◌++◌, length, replicate, map, count_by, Option, Some, None, unwrap_or}
+use Rattle.std.specs.Prelude.{◌≡◌, ◌↔◌, ℕ, ◌+◌, ◌-◌, ◌<◌, ◌≤◌, ◌==◌, List, [], ◌∷◌, ◌++◌, length, replicate, map, count_by, Option, Some, None, unwrap_or}
 use Rattle.std.specs.List.{All, Contains, flat_map}
 use Rattle.vb_block.specs.declared.digest.Ref.{Ref}
 use Rattle.vb_geometry.specs.Layout as geometry
