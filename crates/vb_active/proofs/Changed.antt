@@ -59,7 +59,7 @@ changed-performs told old new op done limits table changed stays fewer clean =
           record {
             said = sym reply;
             leaves = subst (λ r. HasTreeOn d new (tree_after_reply tree op r)) (sym reply)
-            (carried new.index.nodes (due_page old d) (due_page new d) (effect_of tree op) table both.1 (λ s p some. due-same old new d s p (stays s p some).1 (stays s p some).0));
+                (carried new.index.nodes (due_page old d) (due_page new d) (effect_of tree op) table both.1 (λ s p some. due-same old new d s p (stays s p some).1 (stays s p some).0));
           };
       kept = tt;
       damage = tt;
@@ -167,8 +167,8 @@ renamed-refs nodes source target s p = by (same_path source target) refl where
   by : (b : Bool) → same_path source target ≡ b → ref_at (renamed_nodes source target nodes) s p ≡ ref_at (without_slot nodes (replaced_slot source target nodes)) s p
   by true e = ap (λ b. ref_at (if b then nodes else moved) s p) e ∙ sym (ap (λ b. ref_at (without_slot nodes (if b then None else slot_at nodes target)) s p) e)
   by false e = ap (λ b. ref_at (if b then nodes else moved) s p) e
-    ∙ with_place_in-refs (without_slot nodes (slot_at nodes target)) (slot_at nodes source) (slot_at nodes (parent_of target)) (name_of target) s p
-    ∙ sym (ap (λ b. ref_at (without_slot nodes (if b then None else slot_at nodes target)) s p) e)
+      ∙ with_place_in-refs (without_slot nodes (slot_at nodes target)) (slot_at nodes source) (slot_at nodes (parent_of target)) (name_of target) s p
+      ∙ sym (ap (λ b. ref_at (without_slot nodes (if b then None else slot_at nodes target)) s p) e)
 
 -- ---- the operations
 

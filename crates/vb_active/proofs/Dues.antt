@@ -49,10 +49,10 @@ read-first d reference page is only digest gave = by cell.hurt refl where
   by : (o : Option (List ℕ)) → cell.hurt ≡ o → page ≡ cell.first
   by None e = gave ∙ newest cell reference.digest only e
   by (Some bytes) e = absurd (
-    let same : page ≡ bytes = gave ∙ ap (λ o. unwrap_or o (candidate_at cell (length cell.later))) e in
-    All-contains (λ candidate. sha256 candidate ≡ sha256 bytes → ⊥) (candidates cell) cell.first (is.hurt_are_misses reference.place bytes e).unlike
-    (Contains-get_or (candidates cell) 0 cell.first (omega arith))
-    (only.due ∙ sym digest ∙ ap sha256 same))
+      let same : page ≡ bytes = gave ∙ ap (λ o. unwrap_or o (candidate_at cell (length cell.later))) e in
+      All-contains (λ candidate. sha256 candidate ≡ sha256 bytes → ⊥) (candidates cell) cell.first (is.hurt_are_misses reference.place bytes e).unlike
+      (Contains-get_or (candidates cell) 0 cell.first (omega arith))
+      (only.due ∙ sym digest ∙ ap sha256 same))
 
 -- damage at a place that has one page alone is hurt there
 hurt-found : (d : DiskState) (reference : Ref) (kept found : List ℕ) (o : Option (List ℕ)) → HoldsOnly (d.cells reference.place) reference.digest → (kept ≡ found → ⊥) → kept ≡ reference.digest → found ≡ sha256 (read_at d reference.place) → (d.cells reference.place).hurt ≡ o → IsSome o

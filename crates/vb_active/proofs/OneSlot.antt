@@ -38,27 +38,27 @@ none-seen index pages view slot page o is e none = ap (λ (v : ActiveState). kep
 pub settled-files : (nodes new : List (Option Held)) (old_pages pages : List (PageKey × KeptPage)) (slot page : ℕ) (reference : Ref) (held : Held) → KeepsFiles nodes old_pages → held_at nodes slot ≡ Some held → new ≡ set nodes slot (Some (with_ref page reference held)) → Forgets old_pages pages slot page → KeepsFiles new pages
 settled-files nodes new old_pages pages slot page reference held files holds e forgets s k some =
     subst (λ ns. IsSome (ref_at ns s k)) (sym e) (has (s == slot) refl) where
-  was : (b : Bool) → (s == slot && k == page) ≡ b → IsSome (kept_page old_pages s k)
-  was true h = absurd (
-      let none : kept_page pages s k ≡ None = forgets s k ∙ ap (λ b. if b then None else kept_page old_pages s k) h in
-      let no : is_some {T = List ℕ} None ≡ true = sym (ap is_some none) ∙ some in cc)
-  was false h = ap is_some (sym (forgets s k ∙ ap (λ b. if b then None else kept_page old_pages s k) h)) ∙ some
+      was : (b : Bool) → (s == slot && k == page) ≡ b → IsSome (kept_page old_pages s k)
+      was true h = absurd (
+          let none : kept_page pages s k ≡ None = forgets s k ∙ ap (λ b. if b then None else kept_page old_pages s k) h in
+          let no : is_some {T = List ℕ} None ≡ true = sym (ap is_some none) ∙ some in cc)
+      was false h = ap is_some (sym (forgets s k ∙ ap (λ b. if b then None else kept_page old_pages s k) h)) ∙ some
 
-  had : IsSome (ref_at nodes s k)
-  had = files s k (was (s == slot && k == page) refl)
+      had : IsSome (ref_at nodes s k)
+      had = files s k (was (s == slot && k == page) refl)
 
-  refs_set : (b : Bool) → is_file_node held.node.kind ≡ b → k < length (unwrap_or (refs_of held) []) → k < length (unwrap_or (refs_of (with_ref page reference held)) [])
-  refs_set true f below = subst (λ b. k < length (unwrap_or (cond b (Some (set held.refs page reference)) None) [])) (sym f) (omega (arith, subst (λ b. k < length (unwrap_or (cond b (Some held.refs) None) [])) f below, length-set held.refs page reference))
-  refs_set false f below = absurd (omega (arith, subst (λ b. k < length (unwrap_or (cond b (Some held.refs) None) [])) f below))
+      refs_set : (b : Bool) → is_file_node held.node.kind ≡ b → k < length (unwrap_or (refs_of held) []) → k < length (unwrap_or (refs_of (with_ref page reference held)) [])
+      refs_set true f below = subst (λ b. k < length (unwrap_or (cond b (Some (set held.refs page reference)) None) [])) (sym f) (omega (arith, subst (λ b. k < length (unwrap_or (cond b (Some held.refs) None) [])) f below, length-set held.refs page reference))
+      refs_set false f below = absurd (omega (arith, subst (λ b. k < length (unwrap_or (cond b (Some held.refs) None) [])) f below))
 
-  has : (b : Bool) → (s == slot) ≡ b → IsSome (ref_at (set nodes slot (Some (with_ref page reference held))) s k)
-  has false h = ap is_some (ref_at-other nodes slot s k (Some (with_ref page reference held)) h) ∙ had
-  has true h =
-      let same : s ≡ slot = (Decides-eqb s slot).0 h in
-      let at = at_same nodes slot s (Some (with_ref page reference held)) (held_in_table nodes slot held holds) same in
-      let old : held_at nodes s ≡ Some held = ap (held_at nodes) same ∙ holds in
-      let below : k < length (unwrap_or (refs_of held) []) = ref_at-below (unwrap_or (refs_of held) []) k (subst (λ o. IsSome (slice_get (unwrap_or (option_and_then refs_of o) []) k)) old had) in
-      subst (λ o. IsSome (slice_get (unwrap_or (option_and_then refs_of o) []) k)) (sym at) (ref_at-some (unwrap_or (refs_of (with_ref page reference held)) []) k (refs_set (is_file_node held.node.kind) refl below))
+      has : (b : Bool) → (s == slot) ≡ b → IsSome (ref_at (set nodes slot (Some (with_ref page reference held))) s k)
+      has false h = ap is_some (ref_at-other nodes slot s k (Some (with_ref page reference held)) h) ∙ had
+      has true h =
+          let same : s ≡ slot = (Decides-eqb s slot).0 h in
+          let at = at_same nodes slot s (Some (with_ref page reference held)) (held_in_table nodes slot held holds) same in
+          let old : held_at nodes s ≡ Some held = ap (held_at nodes) same ∙ holds in
+          let below : k < length (unwrap_or (refs_of held) []) = ref_at-below (unwrap_or (refs_of held) []) k (subst (λ o. IsSome (slice_get (unwrap_or (option_and_then refs_of o) []) k)) old had) in
+          subst (λ o. IsSome (slice_get (unwrap_or (option_and_then refs_of o) []) k)) (sym at) (ref_at-some (unwrap_or (refs_of (with_ref page reference held)) []) k (refs_set (is_file_node held.node.kind) refl below))
 
 -- ---- the places of the pages that aren't in the table, once one of them is settled
 
@@ -88,9 +88,9 @@ file-settled held page k reference r false f at = absurd (let no : None ≡ Some
 pub settled-below : (old new : ActiveState) (slot page size : ℕ) (reference : Ref) (held : Held) → held_at old.index.nodes slot ≡ Some held → new.index ≡ record old.index { nodes = set old.index.nodes slot (Some (with_ref page reference held)) } → Forgets old.pages new.pages slot page → reference.place < size → LiesBelow size old → LiesBelow size new
 settled-below old new slot page size reference held holds made forgets low below s k r out = elim (cases_Bool (s == slot)) [
   | inr h ↦ below s k r (record {
-      at = sym (ref_at-other old.index.nodes slot s k (Some (with_ref page reference held)) h) ∙ at;
-      apart = sym (forgets s k ∙ ap (λ b. if b && k == page then None else kept_page old.pages s k) h) ∙ out.apart;
-    })
+    at = sym (ref_at-other old.index.nodes slot s k (Some (with_ref page reference held)) h) ∙ at;
+    apart = sym (forgets s k ∙ ap (λ b. if b && k == page then None else kept_page old.pages s k) h) ∙ out.apart;
+  })
   | inl h ↦ (
       let same : s ≡ slot = (Decides-eqb s slot).0 h in
       let here = at_same old.index.nodes slot s (Some (with_ref page reference held)) (held_in_table old.index.nodes slot held holds) same in
@@ -98,9 +98,9 @@ settled-below old new slot page size reference held holds made forgets low below
       elim (file-settled held page k reference r (is_file_node held.node.kind) refl (subst (λ o. slice_get (unwrap_or (option_and_then refs_of o) []) k ≡ Some r) here at)) [
         | inl e ↦ subst (λ (x : Ref). x.place < size) (sym e) low
         | inr w ↦ below s k r (record {
-            at = ap (λ o. slice_get (unwrap_or (option_and_then refs_of o) []) k) was ∙ w.1;
-            apart = sym (forgets s k ∙ ap (λ b. if s == slot && b then None else kept_page old.pages s k) (other w.0) ∙ and_none) ∙ out.apart;
-          })
+          at = ap (λ o. slice_get (unwrap_or (option_and_then refs_of o) []) k) was ∙ w.1;
+          apart = sym (forgets s k ∙ ap (λ b. if s == slot && b then None else kept_page old.pages s k) (other w.0) ∙ and_none) ∙ out.apart;
+        })
       ])
 ] where
   at : ref_at (set old.index.nodes slot (Some (with_ref page reference held))) s k ≡ Some r

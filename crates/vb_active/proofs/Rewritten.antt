@@ -75,21 +75,21 @@ in-run old new slot len first k run page r low from is =
 -- outside of the run the table and the references are as before
 off-run : (old new : ActiveState) (path : List (List ℕ)) (slot long len first k : ℕ) (run : List (List ℕ)) → IsFileOf old.index.nodes path slot long → Replaces old new slot len first run → k < data_pages_of len → k < data_pages_of long → (k < first) ⊎ (first + length run ≤ k) → (kept_page new.pages slot k ≡ kept_page old.pages slot k) × (ref_at new.index.nodes slot k ≡ ref_at old.index.nodes slot k)
 off-run old new path slot long len first k run file r low had out = (
-    here-kept old new slot len first k run r low ∙ ap (λ o. option_or o (kept_page old.pages slot k)) (run-outside slot first slot k run out),
-    ap (λ (i : IndexState). ref_at i.nodes slot k) (r.index file.held file.there)
-    ∙ resized-ref old.index.nodes slot len slot k file.held file.there file.file refl
-    ∙ refs_for-kept len k file.held.refs low (omega (arith, had, file-pages old.index.nodes path slot long file))
-    ∙ sym (ap (λ refs. slice_get refs k) (file-refs_at old.index.nodes slot file.held file.there file.file)),
-  )
+  here-kept old new slot len first k run r low ∙ ap (λ o. option_or o (kept_page old.pages slot k)) (run-outside slot first slot k run out),
+  ap (λ (i : IndexState). ref_at i.nodes slot k) (r.index file.held file.there)
+      ∙ resized-ref old.index.nodes slot len slot k file.held file.there file.file refl
+      ∙ refs_for-kept len k file.held.refs low (omega (arith, had, file-pages old.index.nodes path slot long file))
+      ∙ sym (ap (λ refs. slice_get refs k) (file-refs_at old.index.nodes slot file.held file.there file.file)),
+)
 
 -- so are other slots
 off-slot : (old new : ActiveState) (path : List (List ℕ)) (slot long len first s k : ℕ) (run : List (List ℕ)) → IsFileOf old.index.nodes path slot long → Replaces old new slot len first run → (s == slot) ≡ false → (kept_page new.pages s k ≡ kept_page old.pages s k) × (ref_at new.index.nodes s k ≡ ref_at old.index.nodes s k)
 off-slot old new path slot long len first s k run file r apart = (
-    r.pages s k ∙ ap (λ b. if b && nat_le (data_pages_of len) k then None else option_or (run_at slot first run (key_of s k)) (kept_page old.pages s k)) apart
-    ∙ ap (λ o. option_or o (kept_page old.pages s k)) (run-other slot first s k run apart),
-    ap (λ (i : IndexState). ref_at i.nodes s k) (r.index file.held file.there)
-    ∙ ref_at-other old.index.nodes slot s k (Some (resized len file.held)) apart,
-  )
+  r.pages s k ∙ ap (λ b. if b && nat_le (data_pages_of len) k then None else option_or (run_at slot first run (key_of s k)) (kept_page old.pages s k)) apart
+      ∙ ap (λ o. option_or o (kept_page old.pages s k)) (run-other slot first s k run apart),
+  ap (λ (i : IndexState). ref_at i.nodes s k) (r.index file.held file.there)
+      ∙ ref_at-other old.index.nodes slot s k (Some (resized len file.held)) apart,
+)
 
 -- what was put in its place, or wasn't touched
 split : (first count k : ℕ) → ((first ≤ k) × (k < first + count)) ⊎ ((k < first) ⊎ (first + count ≤ k))

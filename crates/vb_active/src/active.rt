@@ -78,7 +78,12 @@ impl Active {
     /// Performs an operation as the plain tree does. It reads the pages that it needs and that aren't in memory, and
     /// neither writes nor syncs. The places of those that aren't in memory have to lie below the size that the disk was
     /// seen to have.
-    pub fn perform<D: Disk>(&mut self, alloc: Global, disk: &mut D, op: &Op) -> Result<Reply, PageError>
+    pub fn perform<D: Disk>(
+        &mut self,
+        alloc: Global,
+        disk: &mut D,
+        op: &Op,
+    ) -> Result<Reply, PageError>
         requires range { IsInRange op.now }
         requires below { LiesBelow (D.seen disk.old) self.old }
         ensures performs { Performs (D.told disk.old) self.old self.new op.now result }

@@ -31,7 +31,12 @@ fn forget_file(table: &mut PageTable, slot: Option<u32>)
 
 impl Active {
     /// Makes an empty file, or a folder without entries.
-    pub(crate) fn make(&mut self, alloc: Global, path: &Path, kind: Kind) -> Result<Reply, PageError>
+    pub(crate) fn make(
+        &mut self,
+        alloc: Global,
+        path: &Path,
+        kind: Kind,
+    ) -> Result<Reply, PageError>
         ensures performs { (told : Option DiskState) → Performs told self.old self.new (making_of kind path.now) result }
         ensures no_fault { IsErrOf result PageError.DiskFault → ⊥ }
     {
@@ -60,7 +65,12 @@ impl Active {
     }
 
     /// Moves what stands at the source to the target. The pages of a file that stood there are forgotten.
-    pub(crate) fn rename(&mut self, alloc: Global, source: &Path, target: &Path) -> Result<Reply, PageError>
+    pub(crate) fn rename(
+        &mut self,
+        alloc: Global,
+        source: &Path,
+        target: &Path,
+    ) -> Result<Reply, PageError>
         ensures performs { (told : Option DiskState) → Performs told self.old self.new (Op.Rename source.now target.now) result }
         ensures no_fault { IsErrOf result PageError.DiskFault → ⊥ }
     {

@@ -1,11 +1,12 @@
 // The live view on a memory disk, beside the plain tree.
-ghost use Rattle.std.specs.Prelude.{◌<◌, ◌≤◌, ◌^◌, length, IfOk};
+ghost use Rattle.std.specs.Prelude.{◌<◌, ◌≤◌, ◌^◌, length, IsSome};
 ghost use Rattle.vb_disk.specs.Memory.{state_of};
+ghost use Rattle.vb_pages.specs.Tables.{kept_page};
 ghost use Rattle.vb_tree.specs.Operations.{IsInRange};
 ghost use Rattle.vb_active.specs.Views.{LiesBelow};
 
 use super::*;
-use std::alloc::{AllocError, Global};
+use std::alloc::Global;
 use std::test::Fail;
 use vb_block::page_digest;
 use vb_disk::MemoryDisk;
@@ -44,7 +45,12 @@ fn perform(live: &mut Live, alloc: Global, op: &Op) -> Result<Reply, PageError>
     live.view.perform(alloc, &mut live.disk, op)
 }
 
-fn write(live: &mut Live, alloc: Global, offset: u64, bytes: &[u8]) -> Result<Result<Reply, PageError>, Fail>
+fn write(
+    live: &mut Live,
+    alloc: Global,
+    offset: u64,
+    bytes: &[u8],
+) -> Result<Result<Reply, PageError>, Fail>
     requires from { offset < 2 ^ 63 }
     requires few { length bytes.now ≤ 65536 }
 {
@@ -100,8 +106,16 @@ fn place(live: &mut Live, alloc: Global, slot: u32, page: u32, place: u32) -> Re
     }
     live.disk.write(place, &kept)?;
     let digest = page_digest(&kept);
-    live.view.settle(slot, page, Ref { place, digest });
+    settle(live, slot, page, Ref { place, digest });
     Ok(())
+}
+
+// Settles a page of the table at a place of the disk.
+fn settle(live: &mut Live, slot: u32, page: u32, reference: Ref)
+    requires low { reference.place < (state_of live.old.disk).size }
+    requires kept { IsSome (kept_page live.old.view.pages slot page) }
+{
+    live.view.settle(slot, page, reference);
 }
 
 // A file of 8,192 bytes, whose pages stand at the places 34 and 35.
@@ -128,85 +142,94 @@ fn hurt_place(live: &mut Live, page: vb_block::Page) -> Result<(), Fail> {
     Ok(())
 }
 
+// The answer of a write of nine bytes over both pages.
+fn write_nine(live: &mut Live, alloc: Global) -> Result<Result<Reply, PageError>, Fail> {
+    write(live, alloc, 4090, b"nine byte")
+}
+
+// Whether the first two pages are in memory.
+fn kept(live: &Live) -> (bool, bool) {
+    (is_kept(live, 0), is_kept(live, 1))
+}
+
 #[test]
 fn a_write_keeps_the_pages_that_it_touches(rt: HostRuntime) -> Result<(), Fail> {
-    let alloc = rt.alloc();
-    let mut live = two_pages(alloc)?;
-    assert!(rt; !is_kept(&live, 0) && !is_kept(&live, 1));
-    assert_eq!(rt; write(&mut live, alloc, 4090, b"nine byte")?, Ok(Reply::Done));
-    assert!(rt; is_kept(&live, 0) && is_kept(&live, 1));
-    assert_eq!(rt; byte_at(&mut live, alloc, 4090)?, Some(b'n'));
-    assert_eq!(rt; byte_at(&mut live, alloc, 4099)?, Some(7));
-    place(&mut live, alloc, 1, 1, 36)?;
-    assert!(rt; !is_kept(&live, 1));
-    assert_eq!(rt; byte_at(&mut live, alloc, 4098)?, Some(b'e'));
-    assert_eq!(rt; truncate(&mut live, alloc, 8192)?, Ok(Reply::Done));
-    assert!(rt; !is_kept(&live, 1));
+    let mut live = two_pages(rt.alloc())?;
+    assert_eq!(rt; kept(&live), (false, false));
+    assert_eq!(rt; write_nine(&mut live, rt.alloc())?, Ok(Reply::Done));
+    assert_eq!(rt; kept(&live), (true, true));
+    assert_eq!(rt; byte_at(&mut live, rt.alloc(), 4099)?, Some(7));
     Ok(())
 }
 
 #[test]
-fn each_read_that_fails_leaves_the_view(rt: HostRuntime) -> Result<(), Fail> {
-    let alloc = rt.alloc();
-    let mut live = two_pages(alloc)?;
-    for nth in 1..3u32 {
-        live.disk.fail_call(nth, false)?;
-        assert_eq!(rt; write(&mut live, alloc, 4090, b"nine byte")?, Err(PageError::DiskFault));
-        assert!(rt; !is_kept(&live, 0) && !is_kept(&live, 1));
-    }
-    assert_eq!(rt; byte_at(&mut live, alloc, 4090)?, Some(7));
+fn a_settled_page_is_read_from_its_place(rt: HostRuntime) -> Result<(), Fail> {
+    let mut live = two_pages(rt.alloc())?;
+    let _ = write_nine(&mut live, rt.alloc())?;
+    place(&mut live, rt.alloc(), 1, 1, 36)?;
+    assert_eq!(rt; kept(&live), (true, false));
+    assert_eq!(rt; byte_at(&mut live, rt.alloc(), 4098)?, Some(b'e'));
     Ok(())
 }
 
-// Whether an answer is damage at a place.
-fn is_damage(answer: Result<Reply, PageError>, at: u32) -> bool {
+#[test]
+fn the_same_length_keeps_no_page(rt: HostRuntime) -> Result<(), Fail> {
+    let mut live = two_pages(rt.alloc())?;
+    assert_eq!(rt; truncate(&mut live, rt.alloc(), 8192)?, Ok(Reply::Done));
+    assert_eq!(rt; kept(&live), (false, false));
+    Ok(())
+}
+
+#[test]
+fn the_first_read_that_fails_leaves_the_view(rt: HostRuntime) -> Result<(), Fail> {
+    let mut live = two_pages(rt.alloc())?;
+    live.disk.fail_call(1, false)?;
+    assert_eq!(rt;
+        write_nine(&mut live, rt.alloc())?,
+        Err(PageError::DiskFault)
+    );
+    assert_eq!(rt; kept(&live), (false, false));
+    Ok(())
+}
+
+#[test]
+fn the_second_read_that_fails_leaves_the_view(rt: HostRuntime) -> Result<(), Fail> {
+    let mut live = two_pages(rt.alloc())?;
+    live.disk.fail_call(2, false)?;
+    assert_eq!(rt;
+        write_nine(&mut live, rt.alloc())?,
+        Err(PageError::DiskFault)
+    );
+    assert_eq!(rt; kept(&live), (false, false));
+    Ok(())
+}
+
+// Whether an answer is damage at the place 35.
+fn is_damage(answer: Result<Reply, PageError>) -> bool {
     match answer {
-        Err(PageError::Damaged { place, .. }) => place == at,
+        Err(PageError::Damaged { place, .. }) => place == 35,
         _ => false,
     }
 }
 
 #[test]
-fn a_hurt_page_is_missed_only_where_it_is_needed(rt: HostRuntime) -> Result<(), Fail> {
-    let alloc = rt.alloc();
-    let mut live = hurt(alloc)?;
-    assert!(rt; is_damage(write(&mut live, alloc, 4090, b"nine byte")?, 35));
-    assert!(rt; !is_kept(&live, 0));
-    assert!(rt; is_damage(truncate(&mut live, alloc, 5000)?, 35));
-    assert_eq!(rt; truncate(&mut live, alloc, 4096)?, Ok(Reply::Done));
-    let mut live = hurt(alloc)?;
-    assert_eq!(rt; write(&mut live, alloc, 4096, &TWO_PAGES[..4096])?, Ok(Reply::Done));
-    assert_eq!(rt; byte_at(&mut live, alloc, 8191)?, Some(7));
-    let mut live = two_pages(alloc)?;
-    assert_eq!(rt; truncate(&mut live, alloc, 5000)?, Ok(Reply::Done));
-    place(&mut live, alloc, 1, 1, 35)?;
-    let page = live.disk.miss(35)?;
-    hurt_place(&mut live, page)?;
-    assert_eq!(rt; write(&mut live, alloc, 4096, &TWO_PAGES[..904])?, Ok(Reply::Done));
+fn a_hurt_page_that_is_needed_is_damage(rt: HostRuntime) -> Result<(), Fail> {
+    let mut live = hurt(rt.alloc())?;
+    assert!(rt; is_damage(write_nine(&mut live, rt.alloc())?));
+    assert_eq!(rt; kept(&live), (false, false));
+    assert!(rt; is_damage(truncate(&mut live, rt.alloc(), 5000)?));
     Ok(())
 }
 
 #[test]
-fn a_gap_is_zeros_and_its_old_page_stays(rt: HostRuntime) -> Result<(), Fail> {
-    let alloc = rt.alloc();
-    let mut live = empty(alloc)?;
-    let made = Op::Create {
-        path: path(alloc, b"/a")?,
-    };
-    let _ = perform(&mut live, alloc, &made)?;
-    let _ = write(&mut live, alloc, 0, b"x")??;
-    place(&mut live, alloc, 1, 0, 40)?;
-    assert_eq!(rt; write(&mut live, alloc, 8192, b"y")?, Ok(Reply::Done));
-    assert!(rt; !is_kept(&live, 0) && is_kept(&live, 1) && is_kept(&live, 2));
-    assert_eq!(rt; byte_at(&mut live, alloc, 8191)?, Some(0));
-    let gone = Op::Remove {
-        path: path(alloc, b"/a")?,
-    };
-    let _ = perform(&mut live, alloc, &gone)?;
-    let _ = perform(&mut live, alloc, &made)?;
-    assert!(rt; !is_kept(&live, 1));
-    let _ = write(&mut live, alloc, 0, b"z")??;
-    assert_eq!(rt; byte_at(&mut live, alloc, 0)?, Some(b'z'));
+fn a_hurt_page_that_is_not_needed_is_not_read(rt: HostRuntime) -> Result<(), Fail> {
+    let mut live = hurt(rt.alloc())?;
+    assert_eq!(rt;
+        write(&mut live, rt.alloc(), 4096, &TWO_PAGES[..4096])?,
+        Ok(Reply::Done)
+    );
+    let mut other = hurt(rt.alloc())?;
+    assert_eq!(rt; truncate(&mut other, rt.alloc(), 4096)?, Ok(Reply::Done));
     Ok(())
 }
 
@@ -218,117 +241,132 @@ struct Both {
     on_disk: bool,
 }
 
-// Whether both answer an operation alike. Afterwards each page is put on the disk, where that is asked for.
-fn agree(both: &mut Both, alloc: Global, op: Op) -> Result<bool, Fail>
-    requires { IsInRange op }
+// Whether both answer an operation alike. Afterwards the pages of the slot 1 are put on the disk, where that is asked
+// for.
+fn agree(both: &mut Both, alloc: Global, op: &Op) -> Result<bool, Fail>
+    requires { IsInRange op.now }
 {
-    let due = both.plain.perform(alloc, &op)?;
-    let answer = perform(&mut both.live, alloc, &op)?;
+    let due = both.plain.perform(alloc, op)?;
+    let answer = perform(&mut both.live, alloc, op)?;
     if both.on_disk {
         place_all(&mut both.live, alloc)?;
     }
     Ok(answer == due)
 }
 
-// Puts the pages of the first slots on the disk.
+// Puts the first pages of the slot 1 on the disk.
 fn place_all(live: &mut Live, alloc: Global) -> Result<(), Fail> {
-    for slot in 1..4u32 {
-        for page in 0..4u32 {
-            place(live, alloc, slot, page, 4 * slot + page)?;
-        }
+    for page in 0..4u32 {
+        place(live, alloc, 1, page, 4 + page)?;
     }
     Ok(())
 }
 
-fn both_agree(alloc: Global, on_disk: bool) -> Result<bool, Fail> {
-    let live = empty(alloc)?;
-    let plain = Plain::new(alloc, LIMITS);
-    let mut both = Both {
-        live,
-        plain,
-        on_disk,
-    };
-    let made = entries_agree(&mut both, alloc)?;
-    let kept = files_agree(&mut both, alloc)?;
-    let moved = moves_agree(&mut both, alloc)?;
-    Ok(made && kept && moved)
+fn creates(both: &mut Both, alloc: Global) -> Result<bool, Fail> {
+    let path = path(alloc, b"/a")?;
+    agree(both, alloc, &Op::Create { path })
 }
 
-fn entries_agree(both: &mut Both, alloc: Global) -> Result<bool, Fail> {
-    let dir = path(alloc, b"/d")?;
-    let file = path(alloc, b"/d/a")?;
-    let again = path(alloc, b"/d/a")?;
-    let made = agree(both, alloc, Op::MakeDir { path: dir })?;
-    let new = agree(both, alloc, Op::Create { path: file })?;
-    let refused = agree(both, alloc, Op::Create { path: again })?;
-    Ok(made && new && refused)
-}
-
-fn file_op(alloc: Global, offset: u64, bytes: &[u8]) -> Result<Op, Fail>
+fn writes(both: &mut Both, alloc: Global, offset: u64, bytes: &[u8]) -> Result<bool, Fail>
     requires from { offset < 2 ^ 63 }
     requires few { length bytes.now ≤ 65536 }
-    ensures { IfOk result IsInRange }
 {
-    let path = path(alloc, b"/d/a")?;
+    let path = path(alloc, b"/a")?;
     let bytes = Bytes::of(alloc, bytes)?;
-    Ok(Op::Write {
-        path,
-        offset,
-        bytes,
-    })
+    agree(
+        both,
+        alloc,
+        &Op::Write {
+            path,
+            offset,
+            bytes,
+        },
+    )
 }
 
-fn cut(alloc: Global, length: u64) -> Result<Op, Fail>
+fn cuts(both: &mut Both, alloc: Global, length: u64) -> Result<bool, Fail>
     requires { length < 2 ^ 63 }
-    ensures { IfOk result IsInRange }
 {
-    let path = path(alloc, b"/d/a")?;
-    Ok(Op::Truncate { path, length })
+    let path = path(alloc, b"/a")?;
+    agree(both, alloc, &Op::Truncate { path, length })
 }
 
-fn read(alloc: Global, text: &[u8], offset: u64) -> Result<Op, Fail>
-    requires { offset < 2 ^ 63 }
-    ensures { IfOk result IsInRange }
+fn reads(both: &mut Both, alloc: Global) -> Result<bool, Fail> {
+    let path = path(alloc, b"/a")?;
+    agree(
+        both,
+        alloc,
+        &Op::Read {
+            path,
+            offset: 10,
+            length: 20_000,
+        },
+    )
+}
+
+// Whether a write and a read after it are answered alike.
+fn agree_on_write(both: &mut Both, alloc: Global, offset: u64, bytes: &[u8]) -> Result<bool, Fail>
+    requires from { offset < 2 ^ 63 }
+    requires few { length bytes.now ≤ 65536 }
 {
-    let path = path(alloc, text)?;
-    Ok(Op::Read {
-        path,
-        offset,
-        length: 10_000,
-    })
+    let done = writes(both, alloc, offset, bytes)?;
+    Ok(done && reads(both, alloc)?)
 }
 
-fn files_agree(both: &mut Both, alloc: Global) -> Result<bool, Fail> {
-    let written = agree(both, alloc, file_op(alloc, 100, &TWO_PAGES)?)?;
-    let over = agree(both, alloc, file_op(alloc, 4000, b"over both pages")?)?;
-    let cut_within = agree(both, alloc, cut(alloc, 5000)?)?;
-    let longer = agree(both, alloc, cut(alloc, 9000)?)?;
-    let gap = agree(both, alloc, file_op(alloc, 14_000, b"behind a gap")?)?;
-    let none = agree(both, alloc, file_op(alloc, 20_000, b"")?)?;
-    let too_long = agree(both, alloc, cut(alloc, 90_000)?)?;
-    let all = agree(both, alloc, read(alloc, b"/d/a", 0)?)?;
-    let rest = agree(both, alloc, read(alloc, b"/d/a", 9_990)?)?;
-    Ok(written && over && cut_within && longer && gap && none && too_long && all && rest)
+// Whether a length and a read after it are answered alike.
+fn agree_on_length(both: &mut Both, alloc: Global, length: u64) -> Result<bool, Fail>
+    requires { length < 2 ^ 63 }
+{
+    let done = cuts(both, alloc, length)?;
+    Ok(done && reads(both, alloc)?)
 }
 
-fn moves_agree(both: &mut Both, alloc: Global) -> Result<bool, Fail> {
-    let file = path(alloc, b"/b")?;
-    let made = agree(both, alloc, Op::Create { path: file })?;
-    let source = path(alloc, b"/d/a")?;
-    let target = path(alloc, b"/b")?;
-    let moved = agree(both, alloc, Op::Rename { source, target })?;
-    let listed = agree(both, alloc, Op::List { path: path(alloc, b"/")? })?;
-    let told = agree(both, alloc, Op::Stat { path: path(alloc, b"/b")? })?;
-    let bytes = agree(both, alloc, read(alloc, b"/b", 3_990)?)?;
-    let gone = agree(both, alloc, Op::RemoveDir { path: path(alloc, b"/d")? })?;
-    let missing = agree(both, alloc, Op::Remove { path: path(alloc, b"/d/a")? })?;
-    let removed = agree(both, alloc, Op::Remove { path: path(alloc, b"/b")? })?;
-    Ok(made && moved && listed && told && bytes && gone && missing && removed)
+fn both_trees(alloc: Global, on_disk: bool) -> Result<Both, Fail> {
+    let live = empty(alloc)?;
+    let mut both = Both {
+        live,
+        plain: Plain::new(alloc, LIMITS),
+        on_disk,
+    };
+    let _ = creates(&mut both, alloc)?;
+    Ok(both)
+}
+
+fn files_agree(alloc: Global, on_disk: bool) -> Result<bool, Fail> {
+    let mut both = both_trees(alloc, on_disk)?;
+    let over = agree_on_write(&mut both, alloc, 100, &TWO_PAGES)?;
+    let within = agree_on_length(&mut both, alloc, 5000)?;
+    let gap = agree_on_write(&mut both, alloc, 14_000, b"behind a gap")?;
+    let longer = agree_on_length(&mut both, alloc, 16_000)?;
+    let refused = agree_on_length(&mut both, alloc, 90_000)?;
+    Ok(over && within && gap && longer && refused)
 }
 
 #[test]
-fn a_view_answers_as_the_plain_tree(rt: HostRuntime) -> Result<(), Fail> {
-    assert!(rt; both_agree(rt.alloc(), false)?);
-    assert!(rt; both_agree(rt.alloc(), true)?);
+fn pages_in_memory_answer_as_the_plain_tree(rt: HostRuntime) -> Result<(), Fail> {
+    assert!(rt; files_agree(rt.alloc(), false)?);
+    Ok(())
+}
+
+#[test]
+fn pages_on_the_disk_answer_as_the_plain_tree(rt: HostRuntime) -> Result<(), Fail> {
+    assert!(rt; files_agree(rt.alloc(), true)?);
+    Ok(())
+}
+
+// What a small write at an offset leaves in memory of a file of one byte.
+fn pages_after_a_gap(alloc: Global) -> Result<(bool, bool, bool), Fail> {
+    let mut live = empty(alloc)?;
+    let path = path(alloc, b"/a")?;
+    let _ = perform(&mut live, alloc, &Op::Create { path })?;
+    let _ = write(&mut live, alloc, 0, b"x")??;
+    place(&mut live, alloc, 1, 0, 40)?;
+    let _ = write(&mut live, alloc, 8192, b"y")??;
+    Ok((is_kept(&live, 0), is_kept(&live, 1), is_kept(&live, 2)))
+}
+
+#[test]
+fn a_gap_keeps_the_old_last_page_out(rt: HostRuntime) -> Result<(), Fail> {
+    assert_eq!(rt; pages_after_a_gap(rt.alloc())?, (false, true, true));
     Ok(())
 }

@@ -103,12 +103,18 @@ impl Active {
         let after = pages_of(len);
         if before < after {
             let pages = zero_run(alloc, after - before)?;
-            return Ok(Row { first: before, pages });
+            return Ok(Row {
+                first: before,
+                pages,
+            });
         }
         let kept = len % 4096;
         if len >= file.length || kept == 0 {
             let pages = Vec::new(alloc);
-            return Ok(Row { first: after, pages });
+            return Ok(Row {
+                first: after,
+                pages,
+            });
         }
         let first = (len / 4096) as u32;
         let page = match self.cut_page(alloc, disk, file.slot, first, kept as usize) {
