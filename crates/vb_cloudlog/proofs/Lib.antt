@@ -5,3 +5,4 @@ pub mod Steps
 pub mod Playing
 pub mod Loading
 pub mod SentFrames
+pub mod WholeLogs

@@ -5,3 +5,4 @@ pub mod Feeds
 pub mod Loads
 pub mod Sends
 pub mod Laws
+pub mod Streams

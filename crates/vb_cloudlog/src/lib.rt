@@ -2,6 +2,7 @@
 #![tactic(auto)]
 
 mod append;
+mod laws;
 mod link_calls;
 mod log_cloud;
 mod log_refusal;
@@ -11,6 +12,7 @@ mod replay;
 mod sending;
 mod stop;
 
+pub use laws::logs_are_their_frames;
 pub use log_cloud::LogCloud;
 pub use log_refusal::LogRefusal;
 pub use replay::{FeedError, Replay};
