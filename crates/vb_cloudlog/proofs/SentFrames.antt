@@ -19,13 +19,14 @@ use Rattle.vb_link.specs.Views.{LinkView, view_of, entry_in, digest_in, page_in}
 use Rattle.vb_link.proofs.Places.{none_told, no_page_told, page_told}
 use Rattle.vb_link.specs.Links.{IsTold, FindsNone, HasLinkCause}
 use Rattle.vb_link.specs.Valid.{valid_of}
+use Rattle.vb_link.specs.declared.link_error.LinkError.{LinkError}
 use Rattle.vb_link.specs.declared.link_error.LinkError.TheVariants as link
 use Rattle.vb_disk.specs.declared.log_file.LogError.{LogError}
 use Rattle.vb_disk.specs.declared.log_file.LogError.TheVariants.{Failed, Memory}
 use Rattle.vb_cloudlog.specs.declared.stop.Stop.{Stop}
 use Rattle.vb_cloudlog.specs.Messages.{Opening, Whole, Partial, Wrong, opening_of}
 use Rattle.vb_cloudlog.specs.Replays.{ReplayState, new_replay, moved, stopped_at, frames_taken, opening_taken, step_taken, all_taken, fed_to, fed, replay_of}
-use Rattle.vb_cloudlog.specs.Loads.{cloud_unless, cloud_in, told_by, shown_by, IsHeld, added_faults}
+use Rattle.vb_cloudlog.specs.Loads.{cloud_unless, cloud_in, told_by, shown_by, IsHeld, added_faults, CountsOwn}
 use Rattle.vb_cloudlog.specs.Sends.{AppendsTo}
 use Rattle.vb_cloudlog.proofs.Openings.{opening-by_front}
 use Rattle.vb_cloudlog.proofs.Feeding.{fed-in_two, kept-there, taken-there, next_of, opened, all_of}
@@ -175,5 +176,13 @@ past-pages told loaded k i p held on none = subst (λ (s : Option LinkView). Fin
 pub page-shown : (told : Option (List ℕ)) (loaded : Bool) (k : CloudState) (i p : ℕ) (page digest : List ℕ) → IsHeld told loaded k → loaded ≡ true → page_in i p k ≡ Some page → sha256 page ≡ digest
     → (sha256 page ≡ digest) × (option_and_then (digest_in i p) (shown_by loaded (told_by told) k) ≡ Some digest)
 page-shown told loaded k i p page digest held on there is = (is, ap (option_and_then (digest_in i p)) (shown-loaded told loaded k held on) ∙ page_told k i p page digest there is)
+
+-- the own faults of a call that found the log loaded, or loaded it
+pub own-later : {T : Type 0} (result : Result T LinkError) (log log' log'' own own' own'' : ℕ) → log ≤ log' → own' ≡ own → CountsOwn result log' log'' own' own'' → CountsOwn result log log'' own own''
+own-later (Ok x) log log' log'' own own' own'' more same is = is ∙ same
+own-later (Err (link.Refused refusal)) log log' log'' own own' own'' more same is = is ∙ ap counted same
+own-later (Err link.Failed) log log' log'' own own' own'' more same (inl is) = inl (is ∙ ap counted same)
+own-later (Err link.Failed) log log' log'' own own' own'' more same (inr (risen, is)) = inr (omega (arith, more, risen), is ∙ same)
+own-later (Err link.Memory) log log' log'' own own' own'' more same is = is ∙ same
 
 pub ruleset sending = (shown-loaded, log-risen, own-risen)

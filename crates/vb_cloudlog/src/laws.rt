@@ -18,7 +18,8 @@ pub fn logs_are_their_frames()
         → opening_of rest ≡ Partial → cloud_in bytes ≡ Some k }
     ensures wrong { (bytes rest : List ℕ) (ms : List Msg) (k : CloudState) → bytes ≡ frames_of ms ++ rest → through new_cloud ms ≡ Ok k
         → opening_of rest ≡ Wrong → (replay_of bytes).stop ≡ Some (Stop.BadFrame (moved 0 (length (frames_of ms)))) }
-    ensures refused { (bytes more : List ℕ) (ms : List Msg) (m : Msg) (k : CloudState) (refusal : CloudRefusal) → bytes ≡ frames_of ms ++ (frame m ++ more)
+    ensures refused { (bytes more : List ℕ) (ms : List Msg) (m : Msg) (k : CloudState) (refusal : CloudRefusal) → bytes ≡ frames_of ms ++
+        (frame m ++ more)
         → through new_cloud ms ≡ Ok k → cloud_step k m ≡ Err refusal
         → (replay_of bytes).stop ≡ Some (Stop.OutOfOrder (moved 0 (length (frames_of ms))) refusal) }
 {}

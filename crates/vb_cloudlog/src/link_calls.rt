@@ -37,7 +37,18 @@ impl<F: LogFile> Link for LogCloud<F> {
 
     ghost agree = { λ l k v told shown. agree_by l.is_loaded (told_by (F.told l.file)) l.cloud k v told shown };
 
-    fn send(&mut self, msg: &Msg) -> Result<(), LinkError> {
+    fn send(&mut self, msg: &Msg) -> Result<(), LinkError>
+        ensures answer { (k : CloudState) → told_by (F.told self.old.file) ≡ Some k → AnswersSend k msg.now (told_by
+            (F.told self.new.file)) result }
+        ensures untold { told_by (F.told self.old.file) ≡ None → told_by (F.told self.new.file) ≡ None }
+        ensures cause { HasLinkCause (added_faults (F.faults self.old.file) self.old.own) (added_faults
+            (F.faults self.new.file) self.new.own) result }
+        ensures own { CountsOwn result (F.faults self.old.file) (F.faults self.new.file) self.old.own self.new.own }
+        ensures called { self.new.calls ≡ counted self.old.calls }
+        ensures left { UsesFailures LinkError.Failed None None result }
+        ensures sent { self.new.sends ≡ counted self.old.sends }
+        ensures no_memory { IsErrOf result (LinkError.Refused CloudRefusal.Memory) → ⊥ }
+    {
         self.calls = raised(self.calls);
         self.sends = raised(self.sends);
         match self.ready() {
@@ -48,7 +59,20 @@ impl<F: LogFile> Link for LogCloud<F> {
     }
 
     #[tactic(auto, using(crate::proofs::SentFrames::sending))]
-    fn describe(&mut self) -> Result<ViewInfo, LinkError> {
+    fn describe(&mut self) -> Result<ViewInfo, LinkError>
+        ensures info { IfOk result (λ info. option_map info_of (shown_by self.new.is_loaded (told_by
+            (F.told self.new.file)) self.new.cloud) ≡ Some info) }
+        ensures stays { ShowsOn (shown_by self.old.is_loaded (told_by (F.told self.old.file)) self.old.cloud) (shown_by self.new.is_loaded
+            (told_by (F.told self.new.file)) self.new.cloud) result }
+        ensures told { told_by (F.told self.new.file) ≡ told_by (F.told self.old.file) }
+        ensures cause { HasLinkCause (added_faults (F.faults self.old.file) self.old.own) (added_faults
+            (F.faults self.new.file) self.new.own) result }
+        ensures own { CountsOwn result (F.faults self.old.file) (F.faults self.new.file) self.old.own self.new.own }
+        ensures called { self.new.calls ≡ counted self.old.calls }
+        ensures left { UsesFailures LinkError.Failed None None result }
+        ensures sent { self.new.sends ≡ self.old.sends }
+        ensures never_refused { (refusal : CloudRefusal) → IsErrOf result (LinkError.Refused refusal) → ⊥ }
+    {
         self.calls = raised(self.calls);
         match self.ready() {
             Ok(()) => {}
@@ -63,7 +87,18 @@ impl<F: LogFile> Link for LogCloud<F> {
     }
 
     #[tactic(auto, using(crate::proofs::SentFrames::sending))]
-    fn entry(&mut self, i: u32) -> Result<ViewEntry, LinkError> {
+    fn entry(&mut self, i: u32) -> Result<ViewEntry, LinkError>
+        ensures entry { TellsShown (entry_in i) (shown_by self.new.is_loaded (told_by (F.told self.new.file)) self.new.cloud) result }
+        ensures stays { ShowsOn (shown_by self.old.is_loaded (told_by (F.told self.old.file)) self.old.cloud) (shown_by self.new.is_loaded
+            (told_by (F.told self.new.file)) self.new.cloud) result }
+        ensures told { told_by (F.told self.new.file) ≡ told_by (F.told self.old.file) }
+        ensures cause { HasLinkCause (added_faults (F.faults self.old.file) self.old.own) (added_faults
+            (F.faults self.new.file) self.new.own) result }
+        ensures own { CountsOwn result (F.faults self.old.file) (F.faults self.new.file) self.old.own self.new.own }
+        ensures called { self.new.calls ≡ counted self.old.calls }
+        ensures left { UsesFailures LinkError.Failed None None result }
+        ensures sent { self.new.sends ≡ self.old.sends }
+    {
         self.calls = raised(self.calls);
         match self.ready() {
             Ok(()) => {}
@@ -81,7 +116,20 @@ impl<F: LogFile> Link for LogCloud<F> {
     }
 
     #[tactic(auto, using(crate::proofs::SentFrames::sending))]
-    fn fetch(&mut self, i: u32, page: u32, digest: &Digest) -> Result<Page, LinkError> {
+    fn fetch(&mut self, i: u32, page: u32, digest: &Digest) -> Result<Page, LinkError>
+        ensures answer { (k : CloudState) → told_by (F.told self.old.file) ≡ Some k → AnswersFetch (page_in i page k) result }
+        ensures page { FetchesShown (digest_in i page) digest.now (shown_by self.new.is_loaded (told_by
+            (F.told self.new.file)) self.new.cloud) result }
+        ensures whole { IfOk result IsPage }
+        ensures stays { ShowsOn (shown_by self.old.is_loaded (told_by (F.told self.old.file)) self.old.cloud) (shown_by self.new.is_loaded
+            (told_by (F.told self.new.file)) self.new.cloud) result }
+        ensures told { told_by (F.told self.new.file) ≡ told_by (F.told self.old.file) }
+        ensures cause { HasLinkCause (added_faults (F.faults self.old.file) self.old.own) (added_faults
+            (F.faults self.new.file) self.new.own) result }
+        ensures own { CountsOwn result (F.faults self.old.file) (F.faults self.new.file) self.old.own self.new.own }
+        ensures called { self.new.calls ≡ counted self.old.calls }
+        ensures sent { self.new.sends ≡ self.old.sends }
+    {
         self.calls = raised(self.calls);
         match self.ready() {
             Ok(()) => {}

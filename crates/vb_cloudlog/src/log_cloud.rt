@@ -30,7 +30,7 @@ pub struct LogCloud<F: LogFile> {
 }
 
 impl<F: LogFile> LogCloud<F> {
-    ghost use Rattle.std.specs.Prelude.{◌≡◌, true, false, List, ℕ, Some, None, OnOk, OnErr, IsErrOf, IfOk};
+    ghost use Rattle.std.specs.Prelude.{◌≡◌, ◌≤◌, true, false, List, ℕ, Some, None, OnOk, OnErr, IsErrOf, IfOk};
     ghost use Rattle.vb_cause.specs.Causes.{HasCause};
     ghost use Rattle.vb_cause.specs.Faults.{counted};
     ghost use Rattle.vb_cloudlog.specs.Loads.{LoadsLog, told_by, shown_by, added_faults, own_after, CountsOwn};
@@ -109,7 +109,9 @@ impl<F: LogFile> LogCloud<F> {
         ensures stays { (v : LinkView) → shown_by self.old.is_loaded (told_by (F.told self.old.file)) self.old.cloud ≡ Some v
             → shown_by self.new.is_loaded (told_by (F.told self.new.file)) self.new.cloud ≡ Some v }
         ensures loaded { OnOk result (self.new.is_loaded ≡ true) }
-        ensures cause { HasLinkCause (added_faults (F.faults self.old.file) self.old.own) (added_faults (F.faults self.new.file) self.new.own) result }
+        ensures cause { HasLinkCause (added_faults (F.faults self.old.file) self.old.own) (added_faults
+            (F.faults self.new.file) self.new.own) result }
+        ensures faults { F.faults self.old.file ≤ F.faults self.new.file }
         ensures own { CountsOwn result (F.faults self.old.file) (F.faults self.new.file) self.old.own self.new.own }
         ensures calls { self.new.calls ≡ self.old.calls }
         ensures sends { self.new.sends ≡ self.old.sends }

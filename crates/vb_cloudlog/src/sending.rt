@@ -19,9 +19,11 @@ impl<F: LogFile> LogCloud<F> {
     #[tactic(auto, using(crate::proofs::SentFrames::sending))]
     pub(crate) fn send_loaded(&mut self, msg: &Msg) -> Result<(), LinkError>
         requires { self.old.is_loaded ≡ true }
-        ensures answer { (k : CloudState) → told_by (F.told self.old.file) ≡ Some k → AnswersSend k msg.now (told_by (F.told self.new.file)) result }
+        ensures answer { (k : CloudState) → told_by (F.told self.old.file) ≡ Some k → AnswersSend k msg.now (told_by
+            (F.told self.new.file)) result }
         ensures untold { told_by (F.told self.old.file) ≡ None → told_by (F.told self.new.file) ≡ None }
-        ensures cause { HasLinkCause (added_faults (F.faults self.old.file) self.old.own) (added_faults (F.faults self.new.file) self.new.own) result }
+        ensures cause { HasLinkCause (added_faults (F.faults self.old.file) self.old.own) (added_faults
+            (F.faults self.new.file) self.new.own) result }
         ensures own { CountsOwn result (F.faults self.old.file) (F.faults self.new.file) self.old.own self.new.own }
         ensures no_memory { IsErrOf result (LinkError.Refused CloudRefusal.Memory) → ⊥ }
         ensures calls { self.new.calls ≡ self.old.calls }
