@@ -6,7 +6,7 @@ ghost use Rattle.vb_inode.specs.declared.next_view.NextNode.{NextNode};
 ghost use Rattle.vb_inode.specs.declared.next_view.PageSource.{PageSource};
 ghost use Rattle.vb_inode.specs.declared.next_view.PageSource.TheVariants.{Fresh, Kept};
 ghost use Rattle.vb_inode.specs.declared.node.Node.{Node};
-ghost use Rattle.vb_space.specs.Spaces.{DataPlaces, IsFree};
+ghost use Rattle.vb_space.specs.Spaces.{committed_count, free_places, next_count, DataPlaces, IsFree};
 ghost use Rattle.vb_block.specs.Pages.{IsSealed};
 ghost use Rattle.vb_plan.specs.Worked.{AreLongPlans, AreSmallPlans};
 ghost use Rattle.vb_tree.specs.Trees.{data_pages_of};
@@ -29,11 +29,15 @@ pub fn pages_go_to_the_first_free_places()
         → count_by (λ p. p == place) (map place_of (plan_of (basis_of index space) next).pages) ≤ 1 }
 {}
 
-/// At most as many pages are planned as the files take, their map pages among them. It does nothing.
-#[tactic(auto, using(crate::proofs::Nexts::all_pages_few))]
+/// At most as many pages are planned as the files take, their map pages among them; so there is a free place for each
+/// where both views take at most half of the places. It does nothing.
 pub fn no_more_pages_are_planned_than_files_take()
-    ensures { (basis : Basis) (next : List NextNode) → All (λ x. length x.pages ≡ data_pages_of x.node.length) next
+    ensures few { (basis : Basis) (next : List NextNode) → All (λ x. length x.pages ≡ data_pages_of x.node.length) next
         → length (plan_of basis next).pages ≤ pages_of_next next }
+    ensures room { (index : IndexState) (space : DataPlaces) (next : List NextNode) (half : ℕ)
+        → All (λ x. length x.pages ≡ data_pages_of x.node.length) next → pages_of_next next ≤ half
+        → committed_count space ≤ half → next_count space ≡ 0 → half + half ≤ length space.users
+        → length (plan_of (basis_of index space) next).pages ≤ length (free_places space) }
 {}
 
 /// The images are the blocks of exactly the slots whose node changes, upwards; in each other slot the node stays, or
