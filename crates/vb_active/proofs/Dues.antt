@@ -14,7 +14,8 @@ use Rattle.vb_pages.specs.declared.page_error.PageError.TheVariants.{Damaged, Di
 use Rattle.vb_pages.specs.Reads.{AnswersRead, GivesWhatWasRead, IsDamageOf}
 use Rattle.vb_pages.specs.Tables.{kept_page}
 use Rattle.vb_active.specs.Needs.{IsDamageAt, IsErrorAt}
-use Rattle.vb_active.specs.Views.{ActiveState, Backs, HoldsOnly, IsOut, due_page, first_at, ref_at}
+use Rattle.vb_pages.specs.Disks.{HoldsOnly, first_at}
+use Rattle.vb_active.specs.Views.{ActiveState, Backs, IsOut, due_page, ref_at}
 
 -- a page of the table
 pub due-kept : (view : ActiveState) (d : DiskState) (slot page : ℕ) (bytes : List ℕ) → kept_page view.pages slot page ≡ Some bytes → due_page view d slot page ≡ bytes

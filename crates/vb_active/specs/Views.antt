@@ -1,16 +1,13 @@
 -- Live views: an index, the pages that a table keeps of its files, and the pages on the disk that those are the newer ones of.
 use Rattle.std.specs.Prelude.{◌≡◌, ℕ, ◌<◌, List, [], slice_get, Option, Some, None, IsSome, unwrap_or}
-use Rattle.std.specs.List.{All}
-use Rattle.sha2.specs.Sha256.{sha256}
 use Rattle.vb_block.specs.declared.digest.Ref.{Ref}
-use Rattle.vb_disk.specs.declared.cell.Cell.{Cell}
-use Rattle.vb_disk.specs.Cells.{candidates}
 use Rattle.vb_disk.specs.States.{DiskState}
 use Rattle.vb_index.specs.declared.held.Held.{Held}
 use Rattle.vb_index.specs.Indexes.{IndexState}
 use Rattle.vb_index.specs.Nodes.{refs_at}
 use Rattle.vb_pages.specs.declared.kept.KeptPage.{KeptPage}
 use Rattle.vb_pages.specs.declared.kept.PageKey.{PageKey}
+use Rattle.vb_pages.specs.Disks.{first_at, HoldsOnly}
 use Rattle.vb_pages.specs.Tables.{kept_page}
 
 -- a live view: its index, and the table of the pages that it keeps in memory
@@ -21,11 +18,6 @@ pub record ActiveState : Type 0 where
 -- the reference of a page of a slot, None where the slot holds no file with that page
 abbrev pub ref_at : List (Option Held) → ℕ → ℕ → Option Ref
 ref_at nodes slot page = slice_get (unwrap_or (refs_at nodes slot) []) page
-
--- the first candidate at a reference's place
-abbrev pub first_at : DiskState → Option Ref → List ℕ
-first_at d None = []
-first_at d (Some reference) = (d.cells reference.place).first
 
 -- a page of a slot: the table's, or else the first candidate at its reference's place
 unfoldable pub due_page : ActiveState → DiskState → ℕ → ℕ → List ℕ
@@ -39,11 +31,6 @@ KeepsFiles nodes pages = (slot page : ℕ) → IsSome (kept_page pages slot page
 pub record IsOut (view : ActiveState) (slot page : ℕ) (reference : Ref) : Type 0 where
   pub at : ref_at view.index.nodes slot page ≡ Some reference
   pub apart : kept_page view.pages slot page ≡ None
-
--- every candidate of a place is one page, which has this digest
-pub record HoldsOnly (cell : Cell) (digest : List ℕ) : Type 0 where
-  pub same : All (λ page. page ≡ cell.first) (candidates cell)
-  pub due : sha256 cell.first ≡ digest
 
 -- every candidate of the place of each page that isn't in the table is one page of its reference's digest
 abbrev pub Backs : DiskState → ActiveState → Type 0
