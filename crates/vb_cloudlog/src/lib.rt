@@ -17,3 +17,6 @@ pub use log_cloud::LogCloud;
 pub use log_refusal::LogRefusal;
 pub use replay::{FeedError, Replay};
 pub use stop::Stop;
+
+#[cfg(test)]
+mod tests;
