@@ -43,10 +43,12 @@ told-cloud None a k is = somes a k is
     somes a b e = cc
 told-cloud (Some stop) a k is = absurd (cc is)
 
+-- a told cloud is one that messages can leave
 pub reached_by : (told : Option (List ℕ)) (k : CloudState) → told_by told ≡ Some k → IsCloudState k
 reached_by None k is = absurd (cc is)
 reached_by (Some all) k is = subst IsCloudState (told-cloud (replay_of all).stop (replay_of all).cloud k is) (replayed-valid all)
 
+-- a view that is shown is one that a link can show
 pub valid_by : (loaded : Bool) (told : Option (List ℕ)) (k : CloudState) (v : LinkView) → IsCloudState k → shown_by loaded (told_by told) k ≡ Some v → IsLinkView v
 valid_by false told k v is shown = absurd (cc shown)
 valid_by true told k v is shown = by (told_by told) refl shown
@@ -55,6 +57,7 @@ valid_by true told k v is shown = by (told_by told) refl shown
     by None told_is shown = valid_of k v is shown
     by (Some j) told_is shown = valid_of j v (reached_by told j told_is) shown
 
+-- a view that is shown is that of the told cloud
 pub agree_by : (loaded : Bool) (told : Option CloudState) (k j : CloudState) (v : LinkView) → told ≡ Some j → shown_by loaded told k ≡ Some v → v ≡ view_of j
 agree_by false told k j v is shown = absurd (cc shown)
 agree_by true told k j v is shown = views v (view_of j) (sym shown ∙ ap (λ (o : Option CloudState). Some (view_of (unwrap_or o k))) is)

@@ -57,6 +57,7 @@ abbrev pub fed_to : ReplayState → Option Stop → List ℕ → ReplayState
 fed_to r None bytes = all_taken r.cloud r.place (r.rest ++ bytes)
 fed_to r (Some stop) bytes = r
 
+-- a reader after more bytes
 abbrev pub fed : ReplayState → List ℕ → ReplayState
 fed r bytes = fed_to r r.stop bytes
 
