@@ -1,16 +1,15 @@
 -- Trees of a view: which pages they need, and that they stay where those pages do.
-use Rattle.std.proofs.Common.{◌≡◌, ℕ, ◌<◌, ◌≤◌, ◌+◌, ◌-◌, Bool, true, false, cond, not, List, [], length, min, take, drop, get_or, Option, Some, None, IsSome, is_some, refl, sym, ap, subst, ◌∙◌, inl, inr, arith, length-take, length-drop}
+use Rattle.std.proofs.Common.{◌≡◌, ℕ, ◌<◌, ◌+◌, ◌-◌, true, cond, not, List, [], length, min, take, drop, get_or, Option, Some, None, IsSome, sym, ap, subst, ◌∙◌, inl, inr, arith, length-take, length-drop}
 use Rattle.std.specs.Prelude.{unwrap_or, slice_get}
-use Rattle.std.specs.Option.{option_and_then, option_map}
-use Rattle.std.proofs.lemmas.Bool.{cases_Bool, cases_lt, false≢true}
+use Rattle.std.specs.Option.{option_and_then}
+use Rattle.std.proofs.lemmas.Bool.{cases_Bool, cases_lt}
 use Rattle.std.proofs.lemmas.Grind.{same_number_lists}
 use Rattle.std.proofs.lemmas.List.{get_or-take}
 use Rattle.vb_tree.specs.declared.tree.TreeEntry.{TreeEntry}
 use Rattle.vb_tree.specs.Contents.{part_of}
-use Rattle.vb_tree.specs.Trees.{is_root, entry_at, bytes_in, length_at, data_pages_of, IsTree}
-use Rattle.vb_block.specs.declared.digest.Ref.{Ref}
+use Rattle.vb_tree.specs.Trees.{is_root, entry_at, bytes_in, data_pages_of, IsTree}
 use Rattle.vb_index.specs.declared.held.Held.{Held}
-use Rattle.vb_index.specs.Contents.{HasPages, HasTree}
+use Rattle.vb_index.specs.Contents.{HasTree}
 use Rattle.vb_index.specs.Indexes.{Shape, HasShapeOf}
 use Rattle.vb_index.specs.Nodes.{held_at, is_file_node, is_folder_node, refs_at, refs_of, slot_at, IsTable}
 use Rattle.vb_index.proofs.Growth.{slot_holds}

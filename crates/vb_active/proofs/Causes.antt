@@ -1,9 +1,9 @@
 -- Causes of errors over several calls.
-use Rattle.std.proofs.Common.{◌≡◌, ℕ, ◌+◌, ◌<◌, ◌≤◌, Option, Some, None, IsSome, Result, Ok, Err, refl, sym, ap, subst, ◌∙◌, arith, min}
-use Rattle.std.specs.Prelude.{IsErrOf, unwrap_or}
+use Rattle.std.proofs.Common.{◌≡◌, ℕ, ◌≤◌, Option, IsSome, Result, refl, ◌∙◌, arith}
+use Rattle.std.specs.Prelude.{IsErrOf}
 use Rattle.vb_cause.specs.Causes.{HasCause, UsesFailures, left_of}
 use Rattle.vb_disk.specs.States.{DiskState}
-use Rattle.vb_cause.specs.Faults.{HasRisen, counted}
+use Rattle.vb_cause.specs.Faults.{HasRisen}
 use Rattle.vb_pages.specs.declared.page_error.PageError.{PageError}
 use Rattle.vb_pages.specs.declared.page_error.PageError.TheVariants.{DiskFault}
 

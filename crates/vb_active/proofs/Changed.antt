@@ -1,10 +1,10 @@
 -- Operations that change entries and touch no page.
-use Rattle.std.proofs.Common.{◌≡◌, ℕ, ◌<◌, ◌≤◌, Bool, true, false, cond, List, [], length, set, Option, Some, None, IsSome, is_some, Result, Ok, Err, refl, sym, ap, subst, ◌∙◌, inl, inr, arith}
+use Rattle.std.proofs.Common.{◌≡◌, ℕ, ◌<◌, Bool, true, false, List, [], length, set, Option, Some, None, IsSome, is_some, Result, Ok, Err, refl, sym, ap, subst, ◌∙◌, inl, inr, arith}
 use Rattle.std.specs.Prelude.{◌⊎◌, ◌==◌, ◌&&◌, nat_le, if◌then◌else◌, unwrap_or, slice_get}
 use Rattle.std.specs.Option.{option_and_then, option_map}
 use Rattle.std.proofs.lemmas.Bool.{cases_Bool, cases_lt, false≢true}
 use Rattle.std.proofs.lemmas.Bool.Decides.{Decides-eqb, nat_tests}
-use Rattle.std.proofs.lemmas.List.{get_or_past, get_or-set_same}
+use Rattle.std.proofs.lemmas.List.{get_or_past}
 use Rattle.std.proofs.Math.ListN.{length-set}
 use Rattle.vb_path.specs.Paths.{same_path}
 use Rattle.vb_disk.specs.States.{DiskState}
@@ -14,7 +14,6 @@ use Rattle.vb_tree.specs.declared.reply.Reply.TheVariants.{Done}
 use Rattle.vb_tree.specs.declared.tree.TreeEntry.{TreeEntry}
 use Rattle.vb_tree.specs.Refusals.{refusal_of, refuse_new}
 use Rattle.vb_tree.specs.Operations.{answer_of, effect_of, reply_of, reply_unless, tree_after_reply}
-use Rattle.vb_block.specs.declared.digest.Ref.{Ref}
 use Rattle.vb_index.specs.declared.held.Held.{Held}
 use Rattle.vb_index.proofs.Tables.{at_same, at_other}
 use Rattle.vb_index.specs.Contents.{HasTree}

@@ -1,7 +1,6 @@
 -- What a truncate gives.
-use Rattle.std.proofs.Common.{◌≡◌, ◌⊎◌, ℕ, ◌<◌, ◌≤◌, ◌+◌, ◌-◌, ◌*◌, ◌/◌, ◌%◌, List, [], ◌∷◌, ◌++◌, length, take, drop, replicate, get_or, Option, Some, None, Result, Ok, Err, refl, sym, ap, subst, ◌∙◌, inl, inr, arith, length-take}
-use Rattle.std.specs.Prelude.{IfErr, slice_get}
-use Rattle.std.proofs.lemmas.Bool.{cases_lt}
+use Rattle.std.proofs.Common.{◌≡◌, ◌⊎◌, ℕ, ◌<◌, ◌≤◌, ◌+◌, ◌-◌, ◌*◌, ◌/◌, ◌%◌, List, [], ◌∷◌, ◌++◌, length, take, drop, replicate, get_or, Option, Some, None, Ok, refl, sym, ap, ◌∙◌, inl, inr, arith, length-take}
+use Rattle.std.specs.Prelude.{slice_get}
 use Rattle.std.proofs.lemmas.List.{drop-replicate, get_or-replicate, length-replicate, take_all}
 use Rattle.std.proofs.lemmas.Option.{slice_get-get_or}
 use Rattle.vb_block.specs.Pages.{overwritten, zero_page}
@@ -20,11 +19,11 @@ use Rattle.vb_index.specs.Indexes.{HasShapeOf}
 use Rattle.vb_pages.specs.declared.page_error.PageError.{PageError}
 use Rattle.vb_pages.specs.declared.page_error.PageError.TheVariants.{Damaged, DiskFault, Memory}
 use Rattle.vb_active.specs.Files.{IsFileOf}
-use Rattle.vb_active.specs.Needs.{HasUncut, IsErrorAt, IsErrorBelow, IsErrorOn}
+use Rattle.vb_active.specs.Needs.{IsErrorAt, IsErrorBelow, IsErrorOn}
 use Rattle.vb_active.specs.Performs.{Performs}
 use Rattle.vb_active.specs.Replacing.{ArePagesFrom, IsRow, Replaces}
 use Rattle.vb_active.specs.Views.{ActiveState, Backs, due_page}
-use Rattle.vb_active.proofs.Rewritten.{Rewrites, rewritten-performs}
+use Rattle.vb_active.proofs.Rewritten.{rewritten-performs}
 use Rattle.vb_active.proofs.Written.{zero-is}
 
 -- ---- rows

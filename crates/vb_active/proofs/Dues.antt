@@ -1,7 +1,6 @@
 -- Pages of a view: which they are, and what a read of one gives where the disk backs the view.
-use Rattle.std.proofs.Common.{◌≡◌, ℕ, ◌<◌, ◌≤◌, suc, List, [], ◌∷◌, length, get_or, set, Option, Some, None, IsSome, is_some, true, Result, Ok, Err, refl, sym, ap, subst, ◌∙◌, inl, inr, arith}
+use Rattle.std.proofs.Common.{◌≡◌, ℕ, ◌<◌, List, [], ◌∷◌, length, Option, Some, None, IsSome, is_some, true, Result, Ok, Err, refl, sym, ap, subst, ◌∙◌, arith}
 use Rattle.std.specs.Prelude.{IfErr, IfOk, slice_get, unwrap_or}
-use Rattle.std.specs.List.{All, Contains}
 use Rattle.std.proofs.lemmas.List.Elements.{All-contains, Contains-get_or}
 use Rattle.std.proofs.lemmas.Option.{slice_get-get_or, slice_get_within}
 use Rattle.sha2.specs.Sha256.{sha256}
@@ -11,9 +10,9 @@ use Rattle.vb_disk.specs.Cells.{candidates, candidate_at, read_of}
 use Rattle.vb_disk.specs.States.{DiskState, IsDiskState, read_at}
 use Rattle.vb_pages.specs.declared.page_error.PageError.{PageError}
 use Rattle.vb_pages.specs.declared.page_error.PageError.TheVariants.{Damaged, DiskFault, Memory}
-use Rattle.vb_pages.specs.Reads.{AnswersRead, GivesWhatWasRead, IsDamageOf}
+use Rattle.vb_pages.specs.Reads.{AnswersRead, GivesWhatWasRead}
 use Rattle.vb_pages.specs.Tables.{kept_page}
-use Rattle.vb_active.specs.Needs.{IsDamageAt, IsErrorAt}
+use Rattle.vb_active.specs.Needs.{IsErrorAt}
 use Rattle.vb_pages.specs.Disks.{HoldsOnly, first_at}
 use Rattle.vb_active.specs.Views.{ActiveState, Backs, IsOut, due_page, ref_at}
 

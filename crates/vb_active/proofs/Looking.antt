@@ -1,8 +1,8 @@
 -- What stands at a path, and the names of a folder's entries.
-use Rattle.std.proofs.Common.{◌≡◌, ℕ, Bool, true, false, not, cond, List, [], ◌∷◌, length, map, Option, Some, None, is_some, Ok, refl, sym, ap, subst, ◌∙◌, inl, inr, arith}
+use Rattle.std.proofs.Common.{◌≡◌, ℕ, Bool, true, false, not, cond, List, [], ◌∷◌, length, Option, Some, None, is_some, Ok, refl, sym, ap, subst, ◌∙◌, inl, arith}
 use Rattle.std.specs.Prelude.{unwrap_or}
 use Rattle.std.specs.Option.{option_map}
-use Rattle.std.proofs.lemmas.Bool.{cases_Bool, false≢true, ne_eqb}
+use Rattle.std.proofs.lemmas.Bool.{false≢true, ne_eqb}
 use Rattle.vb_disk.specs.States.{DiskState}
 use Rattle.vb_tree.specs.declared.operation.Op.{Op}
 use Rattle.vb_tree.specs.declared.operation.Op.TheVariants.{List as Listing, Stat}
@@ -13,12 +13,12 @@ use Rattle.vb_tree.specs.declared.reply.Refusal.TheVariants.{NotADir}
 use Rattle.vb_tree.specs.declared.tree.Kind.{Kind}
 use Rattle.vb_tree.specs.declared.tree.Kind.TheVariants.{Folder, File}
 use Rattle.vb_tree.specs.declared.tree.TreeEntry.{TreeEntry}
-use Rattle.vb_tree.specs.Refusals.{refuse, refuse_missing, refuse_unless_folder, refusal_of}
+use Rattle.vb_tree.specs.Refusals.{refuse, refuse_missing, refuse_unless_folder}
 use Rattle.vb_tree.specs.Trees.{is_file, is_root, kind_at, length_at, entry_at, bytes_in, names_in, IsTree}
 use Rattle.vb_tree.specs.Operations.{answer_of, effect_of, info_of, is_done, reply_of, reply_unless, tree_after_reply}
 use Rattle.vb_index.specs.declared.held.Held.{Held}
 use Rattle.vb_index.specs.Indexes.{Shape, HasShapeOf}
-use Rattle.vb_index.specs.Nodes.{held_at, holds_folder, is_folder_node, kind_of, slot_at, IsTable}
+use Rattle.vb_index.specs.Nodes.{held_at, holds_folder, kind_of, slot_at, IsTable}
 use Rattle.vb_index.proofs.Growth.{slot_holds}
 use Rattle.vb_index.proofs.Leaving.{folder_at}
 use Rattle.vb_index.proofs.Resizing.{entry-file}

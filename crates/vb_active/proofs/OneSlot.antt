@@ -5,10 +5,10 @@ use Rattle.std.proofs.lemmas.List.{get_or-set_other}
 use Rattle.std.proofs.lemmas.Option.{slice_get-get_or, slice_get_within}
 use Rattle.std.specs.Prelude.{◌⊎◌, unwrap_or, slice_get, ◌==◌, ◌&&◌, if◌then◌else◌}
 use Rattle.std.proofs.lemmas.Bool.{cases_Bool, false≢true}
-use Rattle.std.proofs.lemmas.Bool.Decides.{Decides-eqb, nat_tests}
+use Rattle.std.proofs.lemmas.Bool.Decides.{Decides-eqb}
 use Rattle.vb_block.specs.declared.digest.Ref.{Ref}
 use Rattle.vb_index.specs.declared.held.Held.{Held}
-use Rattle.vb_index.specs.Nodes.{held_at, is_file_node, refs_at, refs_of}
+use Rattle.vb_index.specs.Nodes.{held_at, is_file_node, refs_of}
 use Rattle.vb_index.proofs.Tables.{at_same, at_other, held_in_table}
 use Rattle.vb_index.specs.Indexes.{IndexState}
 use Rattle.vb_pages.specs.declared.kept.KeptPage.{KeptPage}

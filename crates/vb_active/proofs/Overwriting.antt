@@ -1,10 +1,8 @@
 -- What a write gives.
-use Rattle.std.proofs.Common.{◌≡◌, ◌⊎◌, ℕ, ◌<◌, ◌≤◌, ◌+◌, ◌-◌, ◌*◌, ◌/◌, max, min, Bool, true, false, cond, List, [], ◌++◌, length, take, drop, replicate, Option, Some, None, Result, Ok, Err, refl, sym, ap, subst, ◌∙◌, inl, inr, arith}
-use Rattle.std.specs.Prelude.{◌==◌}
+use Rattle.std.proofs.Common.{◌≡◌, ◌⊎◌, ℕ, ◌<◌, ◌≤◌, ◌+◌, ◌-◌, ◌/◌, max, min, cond, List, ◌++◌, length, take, drop, replicate, Option, Some, None, Ok, refl, sym, ap, subst, ◌∙◌, inl, inr, arith}
 use Rattle.std.proofs.lemmas.Bool.{cases_lt, ne_eqb}
 use Rattle.std.proofs.lemmas.Bool.Decides.{eqb_tells}
 use Rattle.vb_disk.specs.States.{DiskState}
-use Rattle.vb_tree.specs.declared.operation.Op.{Op}
 use Rattle.vb_tree.specs.declared.operation.Op.TheVariants.{Write}
 use Rattle.vb_tree.specs.declared.reply.Refusal.{Refusal}
 use Rattle.vb_tree.specs.declared.reply.Reply.TheVariants.{Done}
@@ -24,7 +22,7 @@ use Rattle.vb_active.specs.Performs.{Performs}
 use Rattle.vb_active.specs.Replacing.{ArePagesFrom, IsSpan, Replaces}
 use Rattle.vb_active.specs.Views.{ActiveState, Backs, due_page}
 use Rattle.vb_active.proofs.Carries.{file-length}
-use Rattle.vb_active.proofs.Rewritten.{Rewrites, rewritten-performs}
+use Rattle.vb_active.proofs.Rewritten.{rewritten-performs}
 
 -- the lengths that a write leads to
 grown-length : (offset count long : ℕ) → 0 < count → new_length offset count long ≡ max long (offset + count)

@@ -1,8 +1,5 @@
 -- What a read gives.
-use Rattle.std.proofs.Common.{◌≡◌, ℕ, ◌<◌, ◌≤◌, ◌+◌, ◌-◌, ◌/◌, ◌*◌, List, [], length, min, take, drop, Option, Some, None, Result, Ok, Err, refl, sym, ap, subst, ◌∙◌, inl, arith}
-use Rattle.std.specs.Prelude.{IfOk, IfErr, OnErr}
-use Rattle.std.specs.Option.{option_or}
-use Rattle.std.specs.Result.{result_err}
+use Rattle.std.proofs.Common.{◌≡◌, ℕ, ◌≤◌, ◌+◌, ◌-◌, ◌/◌, List, length, min, take, drop, Option, Some, None, Ok, Err, refl, sym, ap, subst, ◌∙◌, inl, arith}
 use Rattle.vb_disk.specs.States.{DiskState}
 use Rattle.vb_index.specs.Contents.{HasPages}
 use Rattle.vb_index.specs.Indexes.{HasShapeOf}
@@ -10,17 +7,16 @@ use Rattle.vb_pages.specs.declared.page_error.PageError.{PageError}
 use Rattle.vb_pages.specs.declared.page_error.PageError.TheVariants.{Damaged, DiskFault, Memory}
 use Rattle.vb_tree.specs.declared.operation.Op.{Op}
 use Rattle.vb_tree.specs.declared.operation.Op.TheVariants.{Read}
-use Rattle.vb_tree.specs.declared.reply.Reply.{Reply}
 use Rattle.vb_tree.specs.declared.reply.Reply.TheVariants.{Bytes, Refused}
 use Rattle.vb_tree.specs.declared.reply.Refusal.{Refusal}
 use Rattle.vb_tree.specs.declared.tree.TreeEntry.{TreeEntry}
 use Rattle.vb_tree.specs.Trees.{entry_at, bytes_in}
 use Rattle.vb_tree.specs.Contents.{part_of}
 use Rattle.vb_tree.specs.Refusals.{refuse_unless_file, refusal_of}
-use Rattle.vb_tree.specs.Operations.{answer_of, reply_of, reply_unless, tree_after, tree_after_reply}
+use Rattle.vb_tree.specs.Operations.{answer_of, reply_unless, tree_after_reply}
 use Rattle.vb_active.specs.Files.{IsFileOf}
 use Rattle.vb_active.specs.Needs.{IsErrorIn, IsErrorOn}
-use Rattle.vb_active.specs.Performs.{HasTreeOn, Performs, Plays}
+use Rattle.vb_active.specs.Performs.{HasTreeOn, Performs}
 use Rattle.vb_active.specs.Views.{ActiveState, Backs, due_page}
 use Rattle.vb_active.proofs.Carries.{file-length, part-read}
 

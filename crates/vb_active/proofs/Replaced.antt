@@ -1,19 +1,18 @@
 -- A file that got another length and a run of pages.
-use Rattle.std.proofs.Common.{◌≡◌, ◌⊎◌, ℕ, ◌<◌, ◌≤◌, ◌+◌, ◌-◌, Bool, true, false, cond, List, [], ◌++◌, length, take, replicate, set, get_or, Option, Some, None, IsSome, is_some, is_ok, Result, Ok, Err, refl, sym, ap, subst, ◌∙◌, inl, inr, arith, length-take, length-append, append-nil}
+use Rattle.std.proofs.Common.{◌≡◌, ◌⊎◌, ℕ, ◌<◌, ◌≤◌, ◌+◌, ◌-◌, Bool, true, false, cond, List, [], ◌++◌, length, take, replicate, set, Option, Some, None, IsSome, is_some, Result, Ok, Err, refl, sym, ap, subst, ◌∙◌, inl, inr, arith, length-take, length-append, append-nil}
 use Rattle.std.specs.Prelude.{IsOk, OnOk, ◌==◌, ◌&&◌, nat_le, if◌then◌else◌, unwrap_or, slice_get}
 use Rattle.std.specs.Option.{option_and_then, option_or}
-use Rattle.std.proofs.lemmas.Bool.{cases_Bool, cases_lt, false≢true}
+use Rattle.std.proofs.lemmas.Bool.{false≢true}
 use Rattle.std.proofs.lemmas.Bool.Decides.{Decides-eqb, nat_tests}
 use Rattle.std.proofs.lemmas.List.{get_or-take, get_or_append_left, length-replicate, take_all, take-append-le, set-get_or, set-set}
 use Rattle.std.proofs.lemmas.Option.{slice_get_past, slice_get-get_or}
-use Rattle.std.proofs.Math.ListN.{length-set}
 use Rattle.vb_block.specs.declared.digest.Ref.{Ref}
 use Rattle.vb_tree.specs.Trees.{data_pages_of}
 use Rattle.vb_index.specs.declared.held.Held.{Held}
 use Rattle.vb_index.specs.Changes.{blank_ref, refs_for, resized}
 use Rattle.vb_index.specs.Indexes.{IndexState}
-use Rattle.vb_index.specs.Nodes.{held_at, is_file_node, refs_at, refs_of, IsTable}
-use Rattle.vb_index.proofs.Tables.{at_same, at_other, held_in_table}
+use Rattle.vb_index.specs.Nodes.{held_at, is_file_node, refs_of}
+use Rattle.vb_index.proofs.Tables.{at_same, held_in_table}
 use Rattle.vb_pages.specs.declared.kept.KeptPage.{KeptPage}
 use Rattle.vb_pages.specs.declared.kept.PageKey.{PageKey}
 use Rattle.vb_pages.specs.Tables.{kept_page, key_of, run_at, Cuts, PutsRun}

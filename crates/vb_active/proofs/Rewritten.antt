@@ -1,5 +1,5 @@
 -- Operations that rewrite a file.
-use Rattle.std.proofs.Common.{◌≡◌, ◌⊎◌, ℕ, ◌<◌, ◌≤◌, ◌+◌, ◌-◌, Bool, true, false, List, [], length, set, get_or, Option, Some, None, IsSome, is_some, Result, Ok, Err, refl, sym, ap, subst, ◌∙◌, inl, inr, arith}
+use Rattle.std.proofs.Common.{◌≡◌, ◌⊎◌, ℕ, ◌<◌, ◌≤◌, ◌+◌, ◌-◌, Bool, true, false, List, [], length, set, get_or, Option, Some, None, IsSome, is_some, Ok, refl, sym, ap, subst, ◌∙◌, inl, inr, arith}
 use Rattle.std.specs.Prelude.{◌==◌, ◌&&◌, nat_le, if◌then◌else◌, slice_get}
 use Rattle.std.specs.Option.{option_or}
 use Rattle.std.proofs.lemmas.Bool.{cases_Bool, cases_lt, false≢true}
@@ -9,7 +9,6 @@ use Rattle.vb_block.specs.declared.digest.Ref.{Ref}
 use Rattle.vb_disk.specs.States.{DiskState}
 use Rattle.vb_tree.specs.declared.operation.Op.{Op}
 use Rattle.vb_tree.specs.declared.reply.Refusal.{Refusal}
-use Rattle.vb_tree.specs.declared.reply.Reply.{Reply}
 use Rattle.vb_tree.specs.declared.reply.Reply.TheVariants.{Done}
 use Rattle.vb_tree.specs.declared.tree.TreeEntry.{TreeEntry}
 use Rattle.vb_tree.specs.Contents.{page_of}
@@ -18,7 +17,7 @@ use Rattle.vb_tree.specs.Operations.{answer_of, effect_of, reply_of, reply_unles
 use Rattle.vb_tree.specs.Trees.{bytes_in, data_pages_of, entry_at, longest_file, with_bytes_at}
 use Rattle.vb_index.specs.declared.held.Held.{Held}
 use Rattle.vb_index.specs.Changes.{refs_for, resized}
-use Rattle.vb_index.specs.Contents.{HasPages, HasTree, KeepsOthers}
+use Rattle.vb_index.specs.Contents.{HasPages, KeepsOthers}
 use Rattle.vb_index.specs.Indexes.{IndexState, HasShapeOf}
 use Rattle.vb_index.specs.Nodes.{held_at}
 use Rattle.vb_index.proofs.Contents.{resized-contents}

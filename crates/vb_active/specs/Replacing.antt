@@ -1,5 +1,5 @@
 -- A file that gets another length, and new pages in a row.
-use Rattle.std.specs.Prelude.{◌≡◌, ◌⊎◌, ℕ, ◌+◌, ◌*◌, ◌/◌, ◌<◌, ◌≤◌, min, ◌==◌, ◌&&◌, nat_le, if◌then◌else◌, List, length, slice_get, slice_set, Option, Some, None}
+use Rattle.std.specs.Prelude.{◌≡◌, ◌⊎◌, ℕ, ◌+◌, ◌*◌, ◌/◌, ◌<◌, ◌≤◌, min, ◌==◌, ◌&&◌, nat_le, if◌then◌else◌, List, length, slice_get, slice_set, Some, None}
 use Rattle.std.specs.Option.{option_or}
 use Rattle.vb_block.specs.Pages.{zero_page}
 use Rattle.vb_tree.specs.Contents.{page_of}

@@ -1,20 +1,17 @@
 -- It doesn't matter how a log is cut into pieces.
-use Rattle.std.proofs.Common.{◌≡◌, ℕ, zero, suc, ◌<◌, ◌≤◌, ◌+◌, ◌-◌, min, List, [], ◌∷◌, ◌++◌, length, drop, take, Option, Some, None, Result, Ok, Err, refl, sym, ap, ◌∙◌, arith, append_assoc, append-nil, subst}
-use Rattle.std.proofs.lemmas.List.{length-append, drop_at, drop-drop, take_at, take-append-drop}
+use Rattle.std.proofs.Common.{◌≡◌, ℕ, zero, suc, ◌≤◌, ◌+◌, List, [], ◌∷◌, ◌++◌, length, drop, take, Option, Some, None, Result, Ok, Err, refl, sym, ap, ◌∙◌, arith, append_assoc, append-nil, subst}
+use Rattle.std.proofs.lemmas.List.{length-append, drop_at, drop-drop, take_at}
 use Rattle.vb_cause.specs.Faults.{greatest_count}
 use Rattle.vb_msg.specs.declared.message.Msg.{Msg}
-use Rattle.vb_msg.specs.Frames.{body_of, frame}
+use Rattle.vb_msg.specs.Frames.{frame}
 use Rattle.vb_msg.proofs.WholeFrames.{length-frame}
 use Rattle.vb_cloud.specs.declared.refusal.CloudRefusal.{CloudRefusal}
-use Rattle.vb_cloud.specs.Machine.{CloudState, new_cloud, cloud_step}
-use Rattle.vb_cloud.specs.Valid.{IsCloudState}
-use Rattle.vb_cloud.proofs.Keeps.{IsCloudState-step}
-use Rattle.vb_cloud.proofs.Rises.{new_is_valid}
+use Rattle.vb_cloud.specs.Machine.{CloudState, cloud_step}
 use Rattle.vb_cloudlog.specs.declared.stop.Stop.{Stop}
 use Rattle.vb_cloudlog.specs.declared.stop.Stop.TheVariants.{BadFrame, OutOfOrder}
 use Rattle.vb_cloudlog.specs.Messages.{Opening, Whole, Partial, Wrong, opening_of}
-use Rattle.vb_cloudlog.specs.Replays.{ReplayState, new_replay, moved, stopped_at, frames_taken, opening_taken, step_taken, all_taken, fed_to, fed, replay_of}
-use Rattle.vb_cloudlog.proofs.Openings.{opening-frame, opening-nothing, whole-front_is, wrong-stays, wrong-some}
+use Rattle.vb_cloudlog.specs.Replays.{ReplayState, moved, stopped_at, frames_taken, opening_taken, step_taken, all_taken, fed_to, fed}
+use Rattle.vb_cloudlog.proofs.Openings.{opening-frame, opening-nothing, whole-front_is, wrong-stays}
 
 -- what comes next
 abbrev pub next_of : ℕ → ℕ → List ℕ → ℕ → CloudState → ReplayState

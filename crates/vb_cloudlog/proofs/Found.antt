@@ -1,16 +1,16 @@
 -- The message of a frame is found in it.
-use Rattle.std.proofs.Common.{◌≡◌, ℕ, ◌<◌, ◌≤◌, ◌^◌, ◌+◌, ◌-◌, Bool, true, false, nat_lt, nat_le, cond, List, [], ◌∷◌, ◌++◌, length, drop, take, get_or, Option, Some, None, Result, Ok, Err, refl, sym, ap, ◌∙◌, arith, append_assoc, append-nil, subst}
+use Rattle.std.proofs.Common.{◌≡◌, ℕ, ◌<◌, ◌^◌, ◌-◌, Bool, true, false, nat_lt, cond, List, [], ◌∷◌, ◌++◌, length, drop, take, Option, Some, None, Result, Ok, Err, refl, sym, ap, ◌∙◌, arith, append_assoc, append-nil}
 use Rattle.std.specs.Option.{option_map, option_and_then}
 use Rattle.std.proofs.Props.{props}
-use Rattle.std.proofs.lemmas.Bool.{eq-eqb, le-leb, lt-ltb, eqb-true}
-use Rattle.std.proofs.lemmas.List.{drop_at, length-append, length-drop, length-take, take_at, take-append-drop}
+use Rattle.std.proofs.lemmas.Bool.{eq-eqb, le-leb, lt-ltb}
+use Rattle.std.proofs.lemmas.List.{drop_at, take_at}
 use Rattle.std.specs.Str.{bytes_eq}
 use Rattle.std.proofs.lemmas.Slice.Eq.{bytes_eq-Decides}
 use Rattle.byteorder.specs.Endian.{little_number}
 use Rattle.byteorder.specs.Numbers.{little_number-reads_back}
 use Rattle.sha2.specs.Sha256.{sha256}
 use Rattle.vb_path.specs.declared.path.PathError.{PathError}
-use Rattle.vb_path.specs.Paths.{IsPath, path_of, text_of_path}
+use Rattle.vb_path.specs.Paths.{path_of, text_of_path}
 use Rattle.vb_tree.specs.declared.tree.Kind.{Kind}
 use Rattle.vb_tree.specs.declared.tree.Kind.TheVariants.{Folder, File}
 use Rattle.vb_tree.specs.Trees.{is_root}
@@ -23,9 +23,7 @@ use Rattle.vb_msg.specs.declared.ranges.PartBytes.{PartBytes}
 use Rattle.vb_msg.specs.Bodies.{kind_from}
 use Rattle.vb_block.specs.Numbers.{eight_bytes, four_bytes, two_bytes}
 use Rattle.vb_msg.specs.Frames.{body_of, covered, frame, number_in, number_of, number_of_kind, path_bytes}
-use Rattle.vb_msg.specs.Ranges.{are_zeros}
 use Rattle.vb_msg.proofs.MessagesSame.{entries_same, messages_same}
-use Rattle.vb_block.proofs.Numbers.{length-four_bytes, length-two_bytes}
 use Rattle.vb_msg.proofs.PathTexts.{text-short}
 use Rattle.vb_msg.proofs.WholeFrames.{length-frame, number_in-frame}
 use Rattle.vb_cloudlog.specs.Messages.{where_true, where_false, epoch_in, id_in, part_in, entry_read, entry_in, after_entry, message_of, where_framed, message_in}

@@ -1,5 +1,5 @@
 -- What is read of a log, piece by piece.
-use Rattle.std.proofs.Common.{◌≡◌, ℕ, ◌+◌, ◌-◌, ◌<◌, ◌≤◌, Bool, true, false, List, [], ◌∷◌, ◌++◌, length, drop, take, Option, Some, None, Result, Ok, Err, refl, sym, ap, ◌∙◌, arith, subst, inl, inr}
+use Rattle.std.proofs.Common.{◌≡◌, ℕ, ◌+◌, ◌-◌, ◌≤◌, true, List, [], length, drop, take, Option, Some, None, Result, Ok, Err, refl, sym, ap, ◌∙◌, arith, subst, inl, inr}
 use Rattle.std.proofs.lemmas.List.{length-take, length-drop, take_all, take-append-drop}
 use Rattle.vb_cause.specs.Faults.{greatest_count}
 use Rattle.vb_cloud.specs.Machine.{CloudState, new_cloud}
@@ -7,7 +7,7 @@ use Rattle.vb_cloudlog.specs.declared.log_refusal.LogRefusal.{LogRefusal}
 use Rattle.vb_cloudlog.specs.declared.log_refusal.LogRefusal.TheVariants.{BadFrame, OutOfOrder, LogFault, Memory}
 use Rattle.vb_cloudlog.specs.declared.stop.Stop.{Stop}
 use Rattle.vb_cloudlog.specs.declared.stop.Stop.TheVariants as stop
-use Rattle.vb_cloudlog.specs.Replays.{ReplayState, new_replay, all_taken, frames_taken, fed, replay_of}
+use Rattle.vb_cloudlog.specs.Replays.{ReplayState, new_replay, frames_taken, fed, replay_of}
 use Rattle.vb_cloudlog.specs.Loads.{refusal_of, cloud_unless, cloud_in, frames_part, ReadsTo, ReadsPiece, CutsRest, LoadsFrom, LoadsLog, IsHeld, told_by}
 use Rattle.vb_cloudlog.proofs.Openings.{opening-nothing}
 use Rattle.vb_cloudlog.proofs.Feeding.{fed-nothing, fed-in_two, fed-piece, stopped-stays, up_to, IsTakenUpTo, all_of}

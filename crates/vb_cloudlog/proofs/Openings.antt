@@ -1,15 +1,15 @@
 -- What begins some bytes, as a reader of frames learns it.
-use Rattle.std.proofs.Common.{◌≡◌, ◌≢◌, ℕ, ◌<◌, ◌≤◌, ◌+◌, Bool, true, false, nat_lt, cond, List, [], ◌∷◌, ◌++◌, length, drop, take, get_or, Option, Some, None, Result, Ok, Err, refl, sym, ap, ◌∙◌, arith, append-nil, inl, inr, ◌⊎◌}
+use Rattle.std.proofs.Common.{◌≡◌, ℕ, ◌<◌, ◌≤◌, ◌+◌, Bool, true, false, List, [], ◌∷◌, ◌++◌, length, drop, take, Option, Some, None, Result, Ok, Err, refl, sym, ap, ◌∙◌, arith, inl, inr, ◌⊎◌}
 use Rattle.std.proofs.lemmas.Bool.{cases_lt}
 use Rattle.std.proofs.lemmas.List.{length-append, take_at, take-append-drop, take-append-le, length-take-le, get_or_append_left}
 use Rattle.vb_msg.specs.declared.frame_error.FrameError.{FrameError}
-use Rattle.vb_msg.specs.declared.frame_error.FrameError.TheVariants.{BadFrame, Short, Memory}
+use Rattle.vb_msg.specs.declared.frame_error.FrameError.TheVariants.{BadFrame, Short}
 use Rattle.vb_msg.specs.declared.message.Msg.{Msg}
 use Rattle.vb_msg.specs.Frames.{body_length, body_of, frame, front_of, has_length, number_in, DecodesTo}
-use Rattle.vb_msg.proofs.FrameFronts.{IsWholeFront, front-cut, front-four, front-kind, front-long, front-none, front-whole, whole-front}
+use Rattle.vb_msg.proofs.FrameFronts.{front-cut, front-four, front-kind, front-long, front-none, front-whole, whole-front}
 use Rattle.vb_msg.proofs.BodyLengths.{body_length-take}
 use Rattle.vb_msg.proofs.WholeFrames.{front-frame, length-frame}
-use Rattle.vb_cloudlog.specs.Messages.{Opening, Whole, Partial, Wrong, message_in, opening_with, opening_by, opening_of}
+use Rattle.vb_cloudlog.specs.Messages.{Whole, Partial, Wrong, message_in, opening_with, opening_by, opening_of}
 use Rattle.vb_cloudlog.proofs.Found.{message_in-frame, message_in-is}
 
 pub opening-by_front : (bytes : List ℕ) (front : Result ℕ FrameError) → front_of bytes ≡ front → opening_of bytes ≡ opening_by front bytes

@@ -1,8 +1,8 @@
 -- What comes of a message that was decoded.
-use Rattle.std.proofs.Common.{◌≡◌, ◌≢◌, ℕ, ◌≤◌, List, ◌++◌, length, take, drop, Result, Ok, Err, refl, sym, ap, ◌∙◌, arith}
+use Rattle.std.proofs.Common.{◌≡◌, ◌≢◌, ℕ, ◌≤◌, List, length, Ok, Err, refl, ap, arith}
 use Rattle.std.proofs.lemmas.List.{length-take}
 use Rattle.vb_msg.specs.declared.message.Msg.{Msg}
-use Rattle.vb_msg.specs.Frames.{DecodesTo, frame}
+use Rattle.vb_msg.specs.Frames.{DecodesTo}
 use Rattle.vb_cloud.specs.declared.refusal.CloudRefusal.{CloudRefusal}
 use Rattle.vb_cloud.specs.declared.refusal.CloudRefusal.TheVariants.{Claimed, NoDraft, ObjectOpen, NoObject, TooLarge, BadParent, Twice, TooMany, NotLater, NoSuchEntry, Memory}
 use Rattle.vb_cloud.specs.Machine.{CloudState, cloud_step, Takes}

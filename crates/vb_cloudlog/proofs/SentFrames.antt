@@ -1,35 +1,30 @@
 -- What a log tells once a frame was appended, or a front of it.
-use Rattle.std.proofs.Common.{◌≡◌, ℕ, zero, suc, ◌+◌, ◌-◌, ◌<◌, ◌≤◌, Bool, true, false, List, [], ◌∷◌, ◌++◌, length, drop, take, Option, Some, None, unwrap_or, IsSome, Result, Ok, Err, IsErrOf, refl, sym, ap, ◌∙◌, arith, append-nil, subst, inl, inr, ◌⊎◌, min}
+use Rattle.std.proofs.Common.{◌≡◌, ℕ, ◌<◌, ◌≤◌, Bool, true, List, [], ◌++◌, length, take, Option, Some, None, unwrap_or, Result, Ok, Err, refl, sym, ap, ◌∙◌, arith, subst, inl, inr, ◌⊎◌}
 use Rattle.std.proofs.lemmas.Bool.{cases_lt}
-use Rattle.std.proofs.lemmas.List.{length-take, take_all}
-use Rattle.vb_cause.specs.Faults.{counted, greatest_count, HasRisen}
+use Rattle.std.proofs.lemmas.List.{take_all}
+use Rattle.vb_cause.specs.Faults.{counted, HasRisen}
 use Rattle.vb_msg.specs.declared.message.Msg.{Msg}
 use Rattle.vb_msg.specs.Frames.{frame}
 use Rattle.vb_msg.proofs.FrameLaws.{fronts-short}
-use Rattle.vb_msg.specs.declared.frame_error.FrameError.{FrameError}
 use Rattle.vb_msg.specs.declared.frame_error.FrameError.TheVariants.{Short}
 use Rattle.vb_cloud.specs.declared.refusal.CloudRefusal.{CloudRefusal}
-use Rattle.vb_cloud.specs.Machine.{CloudState, new_cloud, cloud_step}
-use Rattle.vb_cloud.specs.Valid.{IsCloudState}
-use Rattle.vb_cloud.proofs.Keeps.{IsCloudState-step}
-use Rattle.vb_cloud.proofs.Rises.{new_is_valid}
+use Rattle.vb_cloud.specs.Machine.{CloudState, cloud_step}
 use Rattle.sha2.specs.Sha256.{sha256}
 use Rattle.std.specs.Option.{option_and_then}
 use Rattle.vb_link.specs.Views.{LinkView, view_of, entry_in, digest_in, page_in}
 use Rattle.vb_link.proofs.Places.{none_told, no_page_told, page_told}
 use Rattle.vb_link.specs.Links.{IsTold, FindsNone, HasLinkCause}
-use Rattle.vb_link.specs.Valid.{valid_of}
 use Rattle.vb_link.specs.declared.link_error.LinkError.{LinkError}
 use Rattle.vb_link.specs.declared.link_error.LinkError.TheVariants as link
 use Rattle.vb_disk.specs.declared.log_file.LogError.{LogError}
-use Rattle.vb_disk.specs.declared.log_file.LogError.TheVariants.{Failed, Memory}
+use Rattle.vb_disk.specs.declared.log_file.LogError.TheVariants.{Failed}
 use Rattle.vb_cloudlog.specs.declared.stop.Stop.{Stop}
-use Rattle.vb_cloudlog.specs.Messages.{Opening, Whole, Partial, Wrong, opening_of}
-use Rattle.vb_cloudlog.specs.Replays.{ReplayState, new_replay, moved, stopped_at, frames_taken, opening_taken, step_taken, all_taken, fed_to, fed, replay_of}
+use Rattle.vb_cloudlog.specs.Messages.{Partial, opening_of}
+use Rattle.vb_cloudlog.specs.Replays.{ReplayState, new_replay, all_taken, fed_to, replay_of}
 use Rattle.vb_cloudlog.specs.Loads.{cloud_unless, cloud_in, told_by, shown_by, IsHeld, added_faults, CountsOwn}
 use Rattle.vb_cloudlog.specs.Sends.{AppendsTo}
 use Rattle.vb_cloudlog.proofs.Openings.{opening-by_front}
-use Rattle.vb_cloudlog.proofs.Feeding.{fed-in_two, kept-there, taken-there, next_of, opened, all_of}
+use Rattle.vb_cloudlog.proofs.Feeding.{fed-in_two, kept-there, taken-there}
 
 -- ---- a log that is held
 

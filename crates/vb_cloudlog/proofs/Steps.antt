@@ -1,17 +1,16 @@
 -- What one step of a reader leaves.
-use Rattle.std.proofs.Common.{◌≡◌, ℕ, zero, suc, ◌<◌, ◌≤◌, ◌+◌, ◌-◌, List, [], ◌∷◌, ◌++◌, length, drop, take, Option, Some, None, Result, Ok, Err, refl, sym, ap, ◌∙◌, arith, append_assoc, append-nil, inl, inr, subst}
+use Rattle.std.proofs.Common.{◌≡◌, ℕ, zero, suc, ◌<◌, ◌≤◌, ◌+◌, ◌-◌, List, [], ◌∷◌, ◌++◌, length, drop, take, Option, Some, None, refl, sym, ap, ◌∙◌, arith, inl, inr, subst}
 use Rattle.std.proofs.lemmas.Bool.{cases_lt}
-use Rattle.std.proofs.lemmas.List.{length-append, length-take, take_at, take_all, take-append-drop, take-append-le}
+use Rattle.std.proofs.lemmas.List.{length-append, length-take, take_at, take-append-drop, take-append-le}
 use Rattle.vb_msg.specs.declared.message.Msg.{Msg}
 use Rattle.vb_msg.specs.Frames.{frame}
-use Rattle.vb_msg.proofs.WholeFrames.{length-frame}
-use Rattle.vb_cloud.specs.Machine.{CloudState, cloud_step}
+use Rattle.vb_cloud.specs.Machine.{CloudState}
 use Rattle.vb_cloudlog.specs.declared.stop.Stop.{Stop}
 use Rattle.vb_cloudlog.specs.declared.play.Played.{Played}
-use Rattle.vb_cloudlog.specs.declared.play.Played.TheVariants.{Taken, Kept, Stopped, NoMemory}
-use Rattle.vb_cloudlog.specs.Messages.{Partial, opening_of, Whole}
+use Rattle.vb_cloudlog.specs.declared.play.Played.TheVariants.{Taken, Kept, Stopped}
+use Rattle.vb_cloudlog.specs.Messages.{Partial, opening_of}
 use Rattle.vb_cloudlog.specs.Playing.{Plays}
-use Rattle.vb_cloudlog.specs.Replays.{ReplayState, moved, stopped_at, all_taken, fed_to, fed}
+use Rattle.vb_cloudlog.specs.Replays.{ReplayState, moved, all_taken, fed}
 use Rattle.vb_cloudlog.proofs.Openings.{opening-frame, opening-nothing, partial-short}
 use Rattle.vb_cloudlog.proofs.Feeding.{kept-there, taken-there}
 

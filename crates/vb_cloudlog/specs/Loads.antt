@@ -1,5 +1,5 @@
 -- What is loaded of a log, and what its bytes mean.
-use Rattle.std.specs.Prelude.{◌≡◌, ◌≢◌, ◌⊎◌, ℕ, ◌+◌, ◌-◌, ◌<◌, ◌≤◌, min, Bool, true, false, List, [], ◌++◌, length, take, drop, Option, Some, None, unwrap_or, Result, Ok, Err}
+use Rattle.std.specs.Prelude.{◌≡◌, ◌⊎◌, ℕ, ◌+◌, ◌-◌, ◌<◌, ◌≤◌, min, Bool, true, false, List, [], length, take, drop, Option, Some, None, unwrap_or, Result, Ok, Err}
 use Rattle.std.specs.Coded.{Coded, Coded-set, coded_option}
 use Rattle.std.proofs.Props.{props}
 use Rattle.vb_cause.specs.Faults.{counted, greatest_count, HasRisen}

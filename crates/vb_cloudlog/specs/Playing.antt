@@ -1,5 +1,5 @@
 -- What comes of the first frame of some bytes.
-use Rattle.std.specs.Prelude.{◌≡◌, ℕ, ◌≤◌, List, length, take, drop, ◌++◌, Option, Some, None, Result, Ok, Err}
+use Rattle.std.specs.Prelude.{◌≡◌, ℕ, ◌≤◌, List, length, drop, ◌++◌, Ok}
 use Rattle.vb_msg.specs.declared.message.Msg.{Msg}
 use Rattle.vb_msg.specs.Frames.{frame}
 use Rattle.vb_cloud.specs.Machine.{CloudState, cloud_step}

@@ -1,7 +1,6 @@
 -- The cloud after the frames of a log, which is fed to a reader in pieces.
-use Rattle.std.specs.Prelude.{◌≡◌, ℕ, zero, suc, ◌+◌, min, List, [], ◌∷◌, ◌++◌, length, take, drop, Option, Some, None, Result, Ok, Err}
+use Rattle.std.specs.Prelude.{◌≡◌, ℕ, zero, suc, ◌+◌, min, List, [], ◌++◌, length, drop, Option, Some, None, Result, Ok, Err}
 use Rattle.vb_cause.specs.Faults.{greatest_count}
-use Rattle.vb_msg.specs.declared.message.Msg.{Msg}
 use Rattle.vb_msg.specs.Frames.{frame}
 use Rattle.vb_cloud.specs.declared.refusal.CloudRefusal.{CloudRefusal}
 use Rattle.vb_cloud.specs.Machine.{CloudState, new_cloud, cloud_step}

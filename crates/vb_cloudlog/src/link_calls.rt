@@ -1,5 +1,6 @@
 // The link of a cloud that is kept as a log.
-ghost use Rattle.std.specs.Prelude.{◌≡◌, ◌<◌, ◌⊎◌, true, Some, None, IsSome, IfOk, IsErrOf, option_map};
+ghost use Rattle.std.specs.Prelude.{◌≡◌, ◌<◌, ◌⊎◌, ◌++◌, ℕ, true, List, Some, None, IsSome, IfOk, IsErrOf, OnOk, option_map};
+ghost use Rattle.vb_msg.specs.Frames.{frame};
 ghost use Rattle.vb_block.specs.Pages.{IsPage};
 ghost use Rattle.vb_cause.specs.Causes.{UsesFailures, left_of};
 ghost use Rattle.vb_cause.specs.Faults.{counted};
@@ -8,7 +9,7 @@ ghost use Rattle.vb_cloud.specs.declared.refusal.CloudRefusal.{CloudRefusal};
 ghost use Rattle.vb_link.specs.Links.{AnswersSend, AnswersFetch, TellsShown, FetchesShown, ShowsOn, HasLinkCause, KeepsFailures, IsAnother};
 ghost use Rattle.vb_link.specs.Views.{view_of, info_of, entry_in, digest_in, page_in};
 ghost use Rattle.vb_cloudlog.specs.Laws.{reached_by, valid_by, agree_by};
-ghost use Rattle.vb_cloudlog.specs.Loads.{told_by, shown_by, added_faults, CountsOwn};
+ghost use Rattle.vb_cloudlog.specs.Loads.{frames_part, told_by, shown_by, added_faults, CountsOwn};
 
 use crate::LogCloud;
 use vb_block::{Digest, Page};
@@ -40,6 +41,8 @@ impl<F: LogFile> Link for LogCloud<F> {
     fn send(&mut self, msg: &Msg) -> Result<(), LinkError>
         ensures answer { (k : CloudState) → told_by (F.told self.old.file) ≡ Some k → AnswersSend k msg.now (told_by
             (F.told self.new.file)) result }
+        ensures appended { (all : List ℕ) → F.told self.old.file ≡ Some all
+            → OnOk result (F.told self.new.file ≡ Some (frames_part all ++ frame msg.now)) }
         ensures untold { told_by (F.told self.old.file) ≡ None → told_by (F.told self.new.file) ≡ None }
         ensures cause { HasLinkCause (added_faults (F.faults self.old.file) self.old.own) (added_faults
             (F.faults self.new.file) self.new.own) result }

@@ -33,7 +33,7 @@ impl<F: LogFile> LogCloud<F> {
     ghost use Rattle.std.specs.Prelude.{◌≡◌, ◌≤◌, true, false, List, ℕ, Some, None, OnOk, OnErr, IsErrOf, IfOk};
     ghost use Rattle.vb_cause.specs.Causes.{HasCause};
     ghost use Rattle.vb_cause.specs.Faults.{counted};
-    ghost use Rattle.vb_cloudlog.specs.Loads.{LoadsLog, told_by, shown_by, added_faults, own_after, CountsOwn};
+    ghost use Rattle.vb_cloudlog.specs.Loads.{frames_part, LoadsLog, told_by, shown_by, added_faults, own_after, CountsOwn};
     ghost use Rattle.vb_link.specs.Links.{HasLinkCause};
     ghost use Rattle.vb_link.specs.Views.{LinkView};
 
@@ -104,6 +104,7 @@ impl<F: LogFile> LogCloud<F> {
 
     // Loads the log where that is due.
     pub(crate) fn ready(&mut self) -> Result<(), LinkError>
+        ensures whole { (all : List ℕ) → F.told self.old.file ≡ Some all → OnOk result (F.told self.new.file ≡ Some (frames_part all)) }
         ensures told { told_by (F.told self.new.file) ≡ told_by (F.told self.old.file) }
         ensures untold { F.told self.old.file ≡ None → F.told self.new.file ≡ None }
         ensures stays { (v : LinkView) → shown_by self.old.is_loaded (told_by (F.told self.old.file)) self.old.cloud ≡ Some v

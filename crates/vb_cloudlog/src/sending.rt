@@ -1,5 +1,6 @@
 // Sends a message to a cloud that is loaded.
-ghost use Rattle.std.specs.Prelude.{◌≡◌, true, false, Some, None, IsErrOf};
+ghost use Rattle.std.specs.Prelude.{◌≡◌, ◌++◌, ℕ, true, false, List, Some, None, IsErrOf, OnOk};
+ghost use Rattle.vb_msg.specs.Frames.{frame};
 ghost use Rattle.vb_cloud.specs.Machine.{CloudState};
 ghost use Rattle.vb_cloud.specs.declared.refusal.CloudRefusal.{CloudRefusal};
 ghost use Rattle.vb_cloudlog.specs.Loads.{told_by, added_faults, CountsOwn};
@@ -21,6 +22,7 @@ impl<F: LogFile> LogCloud<F> {
         requires { self.old.is_loaded ≡ true }
         ensures answer { (k : CloudState) → told_by (F.told self.old.file) ≡ Some k → AnswersSend k msg.now (told_by
             (F.told self.new.file)) result }
+        ensures appended { (all : List ℕ) → F.told self.old.file ≡ Some all → OnOk result (F.told self.new.file ≡ Some (all ++ frame msg.now)) }
         ensures untold { told_by (F.told self.old.file) ≡ None → told_by (F.told self.new.file) ≡ None }
         ensures cause { HasLinkCause (added_faults (F.faults self.old.file) self.old.own) (added_faults
             (F.faults self.new.file) self.new.own) result }

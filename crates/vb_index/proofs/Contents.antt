@@ -1,8 +1,7 @@
 -- The tree that nodes have with their pages, after each change of the nodes.
 use Rattle.std.proofs.Common.{◌≡◌, ◌⊎◌, ℕ, ◌<◌, ◌≤◌, Bool, true, false, cond, List, [], ◌∷◌, ◌++◌, length, replicate, set, Option, Some, None, inl, inr, refl, sym, ap, ◌∙◌, subst, arith, length-append}
-use Rattle.std.specs.Option.{option_map, option_and_then}
+use Rattle.std.specs.Option.{option_map}
 use Rattle.std.proofs.lemmas.Bool.{cases_Bool, false≢true}
-use Rattle.std.proofs.lemmas.Bool.Decides.{Decides-eqb}
 use Rattle.vb_path.specs.Paths.{same_path, IsPath}
 use Rattle.vb_path.proofs.PathLaws.{same_path-Decides}
 use Rattle.vb_tree.specs.declared.tree.Kind.{Kind}
@@ -10,15 +9,14 @@ use Rattle.vb_tree.specs.declared.tree.Kind.TheVariants.{Folder, File}
 use Rattle.vb_tree.specs.declared.tree.Limits.{Limits}
 use Rattle.vb_tree.specs.declared.tree.TreeEntry.{TreeEntry}
 use Rattle.vb_tree.specs.declared.operation.Op.{Op}
-use Rattle.vb_tree.specs.declared.operation.Op.TheVariants.{Create, MakeDir, Rename, Remove, RemoveDir}
+use Rattle.vb_tree.specs.declared.operation.Op.TheVariants.{Create, MakeDir, Remove, RemoveDir}
 use Rattle.vb_tree.specs.declared.reply.Refusal.{Refusal}
-use Rattle.vb_tree.specs.Trees.{longest_file, is_root, entry_at, bytes_in, kind_at, insert_entry, with_bytes_at, without, parent_of, name_of, data_pages_of, AreInOrder, IsTree, BelongsIn}
+use Rattle.vb_tree.specs.Trees.{longest_file, is_root, entry_at, bytes_in, kind_at, insert_entry, with_bytes_at, without, parent_of, name_of, IsTree, BelongsIn}
 use Rattle.vb_tree.specs.Refusals.{refuse_new, refuse_unless_file, refusal_of}
-use Rattle.vb_tree.specs.Operations.{HasPaths, answer_of, effect_of, reply_unless, tree_after_reply}
-use Rattle.vb_tree.specs.Contents.{page_of}
+use Rattle.vb_tree.specs.Operations.{HasPaths, answer_of, reply_unless, tree_after_reply}
 use Rattle.vb_tree.proofs.Allowed.{IsTree-tree_after, refuse_unless_file-none}
 use Rattle.vb_tree.proofs.Removals.{entry_at-without}
-use Rattle.vb_tree.proofs.TreeLaws.{entry_at-insert, entry_at-inserted, HasFile, IsTree-insert, IsTree-with_bytes_at}
+use Rattle.vb_tree.proofs.TreeLaws.{entry_at-insert, entry_at-inserted, IsTree-insert, IsTree-with_bytes_at}
 use Rattle.vb_block.specs.declared.digest.Ref.{Ref}
 use Rattle.vb_index.specs.declared.held.Held.{Held}
 use Rattle.vb_index.specs.Nodes.{root_held, is_folder_node, kind_of, is_file_node, held_at, holds_folder, child_of, slot_at, IsTable}

@@ -1,5 +1,5 @@
 -- Nodes and their pages have at most one tree.
-use Rattle.std.proofs.Common.{◌≡◌, ℕ, ◌<◌, Bool, true, false, cond, List, [], ◌∷◌, length, Option, Some, None, inl, inr, refl, sym, ap, ◌∙◌, subst}
+use Rattle.std.proofs.Common.{◌≡◌, ℕ, ◌<◌, true, false, cond, List, [], ◌∷◌, length, Option, Some, None, inl, inr, refl, sym, ap, ◌∙◌, subst}
 use Rattle.std.specs.Option.{option_map, option_and_then}
 use Rattle.std.specs.Ordering.{ordering_reverse}
 use Rattle.std.specs.declared.cmp.Ordering.TheVariants.{Less, Greater}
@@ -8,13 +8,13 @@ use Rattle.vb_path.specs.Paths.{same_path, path_cmp}
 use Rattle.vb_path.proofs.PathLaws.{same_path-Decides, path_cmp-total}
 use Rattle.vb_tree.specs.declared.tree.Kind.TheVariants.{Folder}
 use Rattle.vb_tree.specs.declared.tree.TreeEntry.{TreeEntry}
-use Rattle.vb_tree.specs.Trees.{is_root, entry_at, bytes_in, data_pages_of, AllAfter, AreInOrder, AllBelongIn, IsTree}
+use Rattle.vb_tree.specs.Trees.{is_root, entry_at, bytes_in, data_pages_of, AllAfter, AreInOrder, AllBelongIn}
 use Rattle.vb_tree.specs.Contents.{page_of}
 use Rattle.vb_tree.proofs.Pages.{bytes-by-pages}
 use Rattle.vb_index.specs.declared.held.Held.{Held}
 use Rattle.vb_index.specs.Nodes.{held_at, slot_at}
 use Rattle.vb_index.specs.Contents.{HasTree}
-use Rattle.vb_index.specs.Indexes.{Shape, shape_of, shape_at, shape_of_entry}
+use Rattle.vb_index.specs.Indexes.{Shape, shape_of, shape_of_entry}
 use Rattle.vb_index.proofs.MovedTrees.{entry_at-after}
 
 -- ---- two lists of entries in order with the same look-ups are one

@@ -1,5 +1,5 @@
 -- The tree that nodes have with their pages after a rename.
-use Rattle.std.proofs.Common.{◌≡◌, ℕ, true, false, cond, ◌||◌, List, [], ◌∷◌, ◌++◌, set, Option, Some, None, inl, inr, refl, sym, ap, ◌∙◌, subst}
+use Rattle.std.proofs.Common.{◌≡◌, ℕ, false, cond, ◌||◌, List, [], ◌∷◌, ◌++◌, set, Option, Some, None, inl, inr, refl, sym, ap, ◌∙◌, subst}
 use Rattle.std.specs.Option.{option_map, option_and_then}
 use Rattle.vb_path.specs.Paths.{same_path, IsPath}
 use Rattle.vb_tree.specs.declared.tree.Limits.{Limits}
@@ -12,14 +12,14 @@ use Rattle.vb_tree.specs.Refusals.{allow, refuse, refuse_missing, refuse_move, r
 use Rattle.vb_tree.specs.Renames.{is_within, moved, in_path_order, renamed}
 use Rattle.vb_tree.proofs.Removals.{AreInOrder-filter}
 use Rattle.vb_index.specs.declared.held.Held.{Held}
-use Rattle.vb_index.specs.Nodes.{held_at, child_of, slot_at, IsTable}
+use Rattle.vb_index.specs.Nodes.{held_at, slot_at, IsTable}
 use Rattle.vb_index.specs.Indexes.{HasShapeOf}
 use Rattle.vb_index.specs.Moves.{placed_in, with_place, without_slot, IsMove}
 use Rattle.vb_index.specs.Contents.{HasTree}
 use Rattle.vb_index.proofs.Contents.{Stems, carried, allowed-tree, left-stems}
 use Rattle.vb_index.proofs.Growth.{path-split, slot_holds}
 use Rattle.vb_index.proofs.MovedShapes.{IsOver, is-over, placed-walk, outside-tree, folder-outside, free-entry, walk-emptied, renamed-shape}
-use Rattle.vb_index.proofs.MovedTrees.{path_before, entry-moved, without-none, AllOutside}
+use Rattle.vb_index.proofs.MovedTrees.{path_before, entry-moved, without-none}
 use Rattle.vb_index.proofs.Newness.{has_parts}
 use Rattle.vb_index.proofs.Places.{Moves, replaces-moves, may-moves}
 use Rattle.vb_index.proofs.Renamed.{may-place, target-at}

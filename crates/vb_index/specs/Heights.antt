@@ -1,5 +1,5 @@
 -- Heights: the path that the parents of a slot make, and nodes whose parents lead to the root.
-use Rattle.std.specs.Prelude.{◌≡◌, ℕ, zero, suc, ◌<◌, Bool, true, false, ◌==◌, if◌then◌else◌, List, [], ◌∷◌, ◌++◌, length, Option, Some, None}
+use Rattle.std.specs.Prelude.{◌≡◌, ℕ, zero, suc, ◌<◌, true, false, ◌==◌, if◌then◌else◌, List, [], ◌∷◌, ◌++◌, length, Option, Some, None}
 use Rattle.vb_path.specs.Parts.{IsPart}
 use Rattle.vb_path.specs.Paths.{text_of_path}
 use Rattle.vb_tree.specs.Trees.{is_root}

@@ -1,5 +1,5 @@
 -- What a step of a recovery notes.
-use Rattle.std.proofs.Common.{◌≡◌, ℕ, ◌-◌, ◌≤◌, Bool, true, false, cond, ltb, List, [], ◌∷◌, ◌++◌, map, Option, Some, None, Result, Ok, Err, refl, sym, ap, subst, ◌∙◌, inl, inr, arith}
+use Rattle.std.proofs.Common.{◌≡◌, ℕ, ◌-◌, ◌≤◌, Bool, true, false, cond, ltb, List, [], ◌∷◌, ◌++◌, map, Option, Some, None, sym, ap, ◌∙◌, inl, inr, arith}
 use Rattle.std.proofs.lemmas.Bool.{le-ltb}
 use Rattle.std.proofs.lemmas.List.{map-append}
 use Rattle.vb_disk.specs.States.{DiskState, read_at}
@@ -8,14 +8,12 @@ use Rattle.vb_head.specs.declared.head.HeadRead.{HeadRead}
 use Rattle.vb_head.specs.declared.head.HeadRead.TheVariants.{Good}
 use Rattle.vb_head.specs.Heads.{head_read}
 use Rattle.vb_journal.specs.declared.mending.FirstRead.{FirstRead}
-use Rattle.vb_journal.specs.declared.recover_error.RecoverError.{RecoverError}
-use Rattle.vb_journal.specs.declared.recover_stage.RecoverStage.{RecoverStage}
 use Rattle.vb_journal.specs.Images.{slot_of}
 use Rattle.vb_journal.specs.Notes.{head_place, slots_with}
 use Rattle.vb_journal.specs.Outcomes.{reads_of}
 use Rattle.vb_journal.specs.Recoveries.{greater_place, head_choice}
-use Rattle.vb_journal.specs.Recovering.{HasReadFirst, images_by}
-use Rattle.vb_journal.specs.Recovers.{is_reading, last_of}
+use Rattle.vb_journal.specs.Recovering.{HasReadFirst}
+use Rattle.vb_journal.specs.Recovers.{last_of}
 use Rattle.vb_journal.specs.Shown.{good_of}
 use Rattle.vb_journal.proofs.Answering.{last_of-more}
 use Rattle.vb_journal.proofs.Choices.{IsChosen-from, chosen, good-from_good_of, greater-stands}

@@ -1,17 +1,14 @@
 -- What a recovery notes on its way: the place of the head that counted when it began, and the slots of the journal's
 -- images.
-use Rattle.std.specs.Prelude.{◌≡◌, ℕ, ◌-◌, if◌then◌else◌, List, [], ◌∷◌, ◌++◌, map, Option, Some, None, Result, Ok, Err}
+use Rattle.std.specs.Prelude.{◌≡◌, ℕ, ◌-◌, List, [], ◌∷◌, ◌++◌, map, Option, Some, None, Ok}
 use Rattle.vb_disk.specs.States.{DiskState}
 use Rattle.vb_head.specs.declared.head.Head.{Head}
 use Rattle.vb_head.specs.Heads.{head_read}
 use Rattle.vb_journal.specs.declared.recover.Recover.{Recover}
-use Rattle.vb_journal.specs.declared.recover_error.RecoverError.{RecoverError}
 use Rattle.vb_journal.specs.declared.recover_stage.RecoverStage.{RecoverStage}
 use Rattle.vb_journal.specs.Images.{slot_of}
 use Rattle.vb_journal.specs.Outcomes.{reads_of}
 use Rattle.vb_journal.specs.Recoveries.{choice_of, greater_place, journal_of}
-use Rattle.vb_journal.specs.Recovering.{images_by}
-use Rattle.vb_journal.specs.Recovers.{is_reading, last_of}
 use Rattle.vb_journal.specs.RecoverViews.{RecoverView, AtAsk, AtSettle, AtFirst, AtSecond, AtMend, AtSettleMend, AtImage, AtReplay, AtReady, AtRefused, view_of}
 use Rattle.vb_journal.specs.Shown.{good_of}
 

@@ -1,5 +1,5 @@
 -- Nodes by slot and the index that holds them: they make the same paths, and what an index holds has no fault.
-use Rattle.std.proofs.Common.{◌≡◌, ℕ, zero, suc, ◌+◌, ◌<◌, ◌≤◌, Bool, true, false, not, cond, ◌||◌, ◌&&◌, ◌==◌, ◌^◌, List, [], ◌∷◌, ◌++◌, length, take, get_or, replicate, Option, Some, None, inl, inr, refl, sym, ap, ◌∙◌, subst, arith}
+use Rattle.std.proofs.Common.{◌≡◌, ℕ, zero, suc, ◌<◌, ◌≤◌, Bool, true, false, not, cond, ◌||◌, ◌&&◌, ◌==◌, List, [], ◌∷◌, ◌++◌, length, take, get_or, replicate, Option, Some, None, inl, inr, refl, sym, ap, ◌∙◌, subst, arith}
 use Rattle.std.specs.List.{list_any}
 use Rattle.std.specs.Option.{option_map, option_or}
 use Rattle.std.proofs.lemmas.Bool.{and_parts, cases_Bool, false≢true, eqb-true, le-leb}
@@ -139,13 +139,12 @@ climbs nodes held table rooted all = snoc-ind (Climbs nodes held) root more wher
       let is = stands nodes held slot one.0 all one.1 in
       let parent : parent_in nodes slot ≡ last.0 = ap (λ (m : Node). m.parent) is ∙ place.1 in
       let name : (node_at nodes slot).name ≡ y = ap (λ (m : Node). m.name) is ∙ place.2 in
-      let up = ih n last.0 last.1 (omega (arith, length-append q (y ∷ []))) in
-      (
+      let up = ih n last.0 last.1 (omega (arith, length-append q (y ∷ []))) in (
         ap (ancestor nodes n) parent ∙ up.0,
         ap (λ (t : ℕ). path_up nodes n t ++ own_part nodes slot) parent
-        ∙ ap (λ (p : List (List ℕ)). p ++ own_part nodes slot) up.1
-        ∙ ap (λ (p : List (List ℕ)). q ++ p) (own_part-entry nodes slot place.0)
-        ∙ ap (λ (x : List ℕ). q ++ x ∷ []) name,
+            ∙ ap (λ (p : List (List ℕ)). p ++ own_part nodes slot) up.1
+            ∙ ap (λ (p : List (List ℕ)). q ++ p) (own_part-entry nodes slot place.0)
+            ∙ ap (λ (x : List ℕ). q ++ x ∷ []) name,
       )
 
 many_steps : (n : ℕ) → n ≤ 32 → n ≤ enough_steps
@@ -227,13 +226,13 @@ slot-no_fault nodes held table rooted all (suc k) lt =
     ap (λ (b : Bool). cond b (refuse (not (is_root_node (node_at nodes 0))) Root None) (cond (is_free (node_at nodes (suc k)).kind) None (fault_of_entry nodes (suc k)))) (not_zero (suc k) (omega arith))
     ∙ by (held_at held (suc k)) refl
   where
-  either : (b : Bool) → fault_of_entry nodes (suc k) ≡ None → cond b None (fault_of_entry nodes (suc k)) ≡ None
-  either true e = refl
-  either false e = e
+    either : (b : Bool) → fault_of_entry nodes (suc k) ≡ None → cond b None (fault_of_entry nodes (suc k)) ≡ None
+    either true e = refl
+    either false e = e
 
-  by : (o : Option Held) → held_at held (suc k) ≡ o → cond (is_free (node_at nodes (suc k)).kind) None (fault_of_entry nodes (suc k)) ≡ None
-  by None e = ap (λ (b : Bool). cond b None (fault_of_entry nodes (suc k))) (stands-free nodes held (suc k) all e)
-  by (Some one) e = either (is_free (node_at nodes (suc k)).kind) (entry-no_fault nodes held (suc k) one table rooted all e (omega arith) lt)
+    by : (o : Option Held) → held_at held (suc k) ≡ o → cond (is_free (node_at nodes (suc k)).kind) None (fault_of_entry nodes (suc k)) ≡ None
+    by None e = ap (λ (b : Bool). cond b None (fault_of_entry nodes (suc k))) (stands-free nodes held (suc k) all e)
+    by (Some one) e = either (is_free (node_at nodes (suc k)).kind) (entry-no_fault nodes held (suc k) one table rooted all e (omega arith) lt)
 
 below-no_fault : (nodes : List Node) → ((slot : ℕ) → slot < length nodes → fault_of_slot nodes slot ≡ None) → (n : ℕ) → n ≤ length nodes → fault_below nodes n ≡ None
 below-no_fault nodes fine zero le = refl

@@ -1,7 +1,6 @@
 -- The index that the nodes of a tree make.
 use Rattle.std.specs.Prelude.{◌≡◌, ℕ, nat_lt, true, if◌then◌else◌, List, length, map, replicate, Option, Some, None, Result, Ok, Err}
 use Rattle.std.specs.List.{sum_by}
-use Rattle.vb_block.specs.declared.digest.Ref.{Ref}
 use Rattle.vb_tree.specs.declared.tree.Limits.{Limits}
 use Rattle.vb_tree.specs.Trees.{data_pages_of, pages_of_length}
 use Rattle.vb_inode.specs.declared.node.Node.{Node}

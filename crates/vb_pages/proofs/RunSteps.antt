@@ -1,13 +1,11 @@
 -- What a run has under a key when it grows at its end, and when its first page is taken away.
-use Rattle.std.proofs.Common.{◌≡◌, ℕ, zero, suc, ◌+◌, ◌-◌, ◌≤◌, Bool, true, false, ◌&&◌, cond, refl, sym, ap, subst, ◌∙◌, arith, List, [], ◌∷◌, ◌++◌, length, slice_get, Option, Some, None, IsSome, is_some}
+use Rattle.std.proofs.Common.{◌≡◌, ℕ, zero, suc, ◌+◌, ◌-◌, ◌≤◌, Bool, true, false, ◌&&◌, cond, refl, sym, ap, ◌∙◌, arith, List, [], ◌∷◌, ◌++◌, length, slice_get, Option, Some, None}
 use Rattle.std.specs.Bool.{◌==◌}
-use Rattle.std.specs.Option.{option_map, option_or, unwrap_or}
 use Rattle.std.specs.Ordering.{is_eq}
 use Rattle.std.specs.Prelude.{nat_le, if◌then◌else◌}
 use Rattle.std.proofs.lemmas.Bool.Decides.{nat_tests}
-use Rattle.vb_pages.specs.declared.kept.KeptPage.{KeptPage}
 use Rattle.vb_pages.specs.declared.kept.PageKey.{PageKey}
-use Rattle.vb_pages.specs.Tables.{key_of, key_order, kept_at, kept_of, run_at}
+use Rattle.vb_pages.specs.Tables.{key_of, key_order, run_at}
 
 -- whether a key is that of a slot's page
 abbrev pub is_tied : ℕ → ℕ → PageKey → Bool

@@ -1,5 +1,5 @@
 -- What a step says in other words for how its machine went on.
-use Rattle.std.proofs.Common.{◌≡◌, Option, Some, Result, Ok, Err}
+use Rattle.std.proofs.Common.{Option, Ok, Err}
 use Rattle.vb_disk.specs.declared.disk_error.DiskError.{DiskError}
 use Rattle.vb_disk.specs.States.{DiskState}
 use Rattle.vb_steps.specs.declared.due.Got.{Got}

@@ -1,9 +1,7 @@
 -- A format leaves a disk that recovers the view of the empty store alone.
-use Rattle.std.proofs.Common.{◌≡◌, ℕ, ◌+◌, ◌-◌, false, List, [], ◌∷◌, length, Option, Some, None, Result, Ok, Err, OnOk, refl, sym, ap, subst, ◌∙◌, arith}
+use Rattle.std.proofs.Common.{◌≡◌, ℕ, ◌+◌, ◌-◌, false, List, [], ◌∷◌, length, Option, Some, None, Result, Ok, Err, OnOk, refl, ap, subst, ◌∙◌, arith}
 use Rattle.vb_disk.specs.declared.cell.Cell.{Cell}
 use Rattle.vb_disk.specs.States.{DiskState, after_calls}
-use Rattle.vb_journal.specs.Interruptions.{AreSettled}
-use Rattle.vb_journal.specs.Progress.{IsAtRest}
 use Rattle.vb_store.specs.Clear.{first_candidates, last_candidates}
 use Rattle.vb_store.specs.EmptyStores.{IsMadeEmpty, empty_home}
 use Rattle.vb_store.specs.Formats.{CanFormat, format_calls, made_head}

@@ -1,6 +1,6 @@
 use Rattle.std.proofs.Common.{refl, ◌∙◌}
 use Rattle.std.proofs.lemmas.Result.{err_from_is_err_and}
-use Rattle.vb_index.proofs.Resizing.{file-none, file-some}
+use Rattle.vb_index.proofs.Resizing.{file-none}
 use Rattle.vb_active.proofs.files.find_file.Goals as goal
 
 pub returns-in_err-length-clause-refused : goal.returns-in_err-length-clause-refused

@@ -1,10 +1,8 @@
-use Rattle.std.proofs.Common.{◌≡◌, Result, Err, refl, sym, ap, ◌∙◌, subst}
-use Rattle.vb_msg.specs.declared.message.Msg.{Msg}
+use Rattle.std.proofs.Common.{Err, refl, subst}
 use Rattle.vb_msg.specs.declared.frame_error.FrameError.{FrameError}
 use Rattle.vb_msg.specs.Frames.{DecodesTo}
 use Rattle.vb_cloudlog.proofs.Openings.{decoded-short, decoded-bad}
 use Rattle.vb_cloudlog.proofs.Feeding.{wrong-there}
-use Rattle.vb_cloudlog.proofs.Playing.{refused-by}
 use Rattle.vb_cloudlog.proofs.play.play.Goals as goal
 
 pub returns-in-Err-Short-clause-played : goal.returns-in-Err-Short-clause-played

@@ -1,4 +1,4 @@
-use Rattle.std.proofs.Common.{rules, ◌≡◌, ℕ, ◌<◌, ◌≤◌, ◌+◌, ◌-◌, List, length, Some, None, ap, sym, ◌∙◌, arith}
+use Rattle.std.proofs.Common.{rules, ◌<◌, ◌≤◌, ap, ◌∙◌, arith}
 use Rattle.vb_cause.specs.Faults.{greatest_count}
 use Rattle.vb_cloudlog.specs.Replays.{ReplayState}
 use Rattle.vb_cloudlog.proofs.Loading.{nothing-fed, piece-fed, all-fed, rest-stops}

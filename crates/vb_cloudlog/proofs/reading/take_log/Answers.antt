@@ -1,4 +1,4 @@
-use Rattle.std.proofs.Common.{rules, ◌≡◌, Some}
+use Rattle.std.proofs.Common.{rules}
 use Rattle.vb_cloudlog.proofs.Loading.{loads-read}
 use Rattle.vb_cloudlog.proofs.reading.take_log.Goals as goal
 

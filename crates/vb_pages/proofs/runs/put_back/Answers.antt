@@ -1,4 +1,4 @@
-use Rattle.std.proofs.Common.{◌≡◌, ◌+◌, ◌^◌, ◌≤◌, ap, subst, ◌∙◌, arith, length, ◌∷◌, [], ◌++◌, IsSome}
+use Rattle.std.proofs.Common.{◌≡◌, ◌+◌, ◌^◌, ◌≤◌, ap, subst, ◌∙◌, arith, length, IsSome}
 use Rattle.std.specs.Option.{unwrap_or}
 use Rattle.std.proofs.lemmas.List.{length_push}
 use Rattle.vb_pages.specs.declared.kept.PageKey.{PageKey}

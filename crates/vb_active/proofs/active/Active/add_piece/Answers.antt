@@ -1,4 +1,4 @@
-use Rattle.std.proofs.Common.{◌≡◌, ◌-◌, ◌++◌, List, ℕ, take, drop, OnOk, refl, sym, ap, subst}
+use Rattle.std.proofs.Common.{◌≡◌, ◌-◌, ◌++◌, List, ℕ, take, drop, OnOk, refl, sym, subst}
 use Rattle.vb_active.proofs.Dues.{due-kept}
 use Rattle.vb_active.proofs.OneSlot.{kept-seen}
 use Rattle.vb_active.proofs.active.Active.add_piece.Goals as goal

@@ -1,5 +1,4 @@
-use Rattle.std.proofs.Common.{◌≡◌, ◌<◌, ◌*◌, min, length, subst, sym, arith, ◌∙◌}
-use Rattle.vb_tree.specs.Trees.{data_pages_of}
+use Rattle.std.proofs.Common.{arith}
 use Rattle.vb_active.proofs.Carries.{page-of-file}
 use Rattle.vb_active.proofs.Written.{base-kept, under-error, untouched-after, untouched-before}
 use Rattle.vb_active.proofs.active.Active.base_page.Goals as goal

@@ -1,4 +1,4 @@
-use Rattle.std.proofs.Common.{refl, sym, ap, ◌∙◌}
+use Rattle.std.proofs.Common.{refl, sym, ◌∙◌}
 use Rattle.vb_active.proofs.Dues.{due-kept}
 use Rattle.vb_active.proofs.OneSlot.{kept-seen}
 use Rattle.vb_active.proofs.active.Active.copy_of.Goals as goal

@@ -1,4 +1,4 @@
-use Rattle.std.proofs.Common.{◌≡◌, ◌≤◌, length, IsSome, ℕ, List, Option, Some, set, refl, sym, ap, subst, ◌∙◌, arith}
+use Rattle.std.proofs.Common.{◌≡◌, ◌≤◌, length, IsSome, ℕ, List, sym, ap, subst, ◌∙◌, arith}
 use Rattle.vb_tree.specs.Trees.{data_pages_of}
 use Rattle.vb_index.specs.Changes.{resized}
 use Rattle.vb_index.specs.Indexes.{IndexState}

@@ -1,6 +1,5 @@
-use Rattle.std.proofs.Common.{◌≡◌, Option, sym, subst, ap, ◌∙◌}
+use Rattle.std.proofs.Common.{sym, subst, ◌∙◌}
 use Rattle.std.specs.Prelude.{Result}
-use Rattle.vb_disk.specs.States.{DiskState}
 use Rattle.vb_pages.specs.declared.page_error.PageError.{PageError}
 use Rattle.vb_tree.specs.declared.reply.Reply.{Reply}
 use Rattle.vb_active.specs.Performs.{Performs, making_of}

@@ -1,4 +1,4 @@
-use Rattle.std.proofs.Common.{◌≡◌, sym, subst}
+use Rattle.std.proofs.Common.{sym, subst}
 use Rattle.vb_index.specs.Indexes.{HasShapeOf}
 use Rattle.vb_active.specs.Files.{IsFileOf}
 use Rattle.vb_active.specs.Views.{ActiveState}

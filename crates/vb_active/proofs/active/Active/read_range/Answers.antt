@@ -1,5 +1,4 @@
-use Rattle.std.proofs.Common.{◌≡◌, ◌+◌, ◌-◌, ◌*◌, ◌/◌, ◌≤◌, min, refl, subst, sym, ◌∙◌, arith}
-use Rattle.vb_active.specs.Views.{Backs}
+use Rattle.std.proofs.Common.{◌≡◌, ◌+◌, ◌-◌, ◌*◌, ◌/◌, min, refl, ◌∙◌, arith}
 use Rattle.vb_active.proofs.Causes.{looked-on}
 use Rattle.vb_active.proofs.Ranges.{read-step}
 use Rattle.vb_active.proofs.active.Active.read_range.Goals as goal

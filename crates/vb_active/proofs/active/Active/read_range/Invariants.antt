@@ -1,7 +1,6 @@
-use Rattle.std.proofs.Common.{◌≡◌, ℕ, ◌-◌, ◌≤◌, List, Some, length, take, drop}
+use Rattle.std.proofs.Common.{◌≡◌, ◌-◌, ◌≤◌, Some}
 use Rattle.vb_disk.specs.States.{DiskState}
-use Rattle.vb_index.specs.Contents.{HasPages}
-use Rattle.vb_active.specs.Views.{ActiveState, Backs, due_page}
+use Rattle.vb_active.specs.Views.{Backs}
 use Rattle.vb_active.proofs.Causes.{Looked}
 use Rattle.vb_active.proofs.Ranges.{ReadSoFar}
 use Rattle.vb_active.proofs.active.Active.read_range.Given as goal

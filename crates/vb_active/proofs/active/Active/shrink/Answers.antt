@@ -1,4 +1,4 @@
-use Rattle.std.proofs.Common.{◌≡◌, ◌≤◌, ℕ, List, Option, Some, set, refl, sym, ap, subst, ◌∙◌, arith, length}
+use Rattle.std.proofs.Common.{◌≤◌, ℕ, List, sym, subst, arith, length}
 use Rattle.vb_tree.specs.Trees.{data_pages_of}
 use Rattle.vb_index.specs.Indexes.{IndexState}
 use Rattle.vb_active.specs.Files.{IsFileOf}

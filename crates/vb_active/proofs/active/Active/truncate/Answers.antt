@@ -1,4 +1,4 @@
-use Rattle.std.proofs.Common.{◌≡◌, ℕ, List, Option, Some, None, subst}
+use Rattle.std.proofs.Common.{◌≡◌, List, Option, None, subst}
 use Rattle.vb_tree.specs.Refusals.{refuse_resize, refuse_unless_file}
 use Rattle.vb_tree.specs.declared.reply.Refusal.{Refusal}
 use Rattle.vb_tree.specs.declared.tree.TreeEntry.{TreeEntry}

@@ -1,5 +1,4 @@
-use Rattle.std.proofs.Common.{◌≡◌, ◌<◌, ◌≤◌, ◌%◌, refl, sym, ap, subst, ◌∙◌, arith}
-use Rattle.vb_tree.specs.Trees.{data_pages_of}
+use Rattle.std.proofs.Common.{refl, arith}
 use Rattle.vb_active.proofs.Carries.{page-of-file}
 use Rattle.vb_active.proofs.Cutting.{below-error, pages-cut, pages-grown}
 use Rattle.vb_active.proofs.active.Active.truncated_row.Goals as goal

@@ -1,4 +1,4 @@
-use Rattle.std.proofs.Common.{◌≡◌, ◌≤◌, ◌+◌, ℕ, List, Option, Some, None, length, refl, sym, ap, subst, ◌∙◌, arith}
+use Rattle.std.proofs.Common.{◌≡◌, ◌≤◌, ◌+◌, ℕ, List, Option, Some, None, length, subst, arith}
 use Rattle.vb_tree.specs.Refusals.{refuse_resize, refuse_unless_file}
 use Rattle.vb_tree.specs.Trees.{data_pages_of}
 use Rattle.vb_tree.specs.declared.operation.Op.TheVariants.{Write}

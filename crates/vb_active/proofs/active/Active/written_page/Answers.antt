@@ -1,4 +1,4 @@
-use Rattle.std.proofs.Common.{◌≡◌, ◌<◌, ◌*◌, ◌+◌, ◌≤◌, min, length, subst, sym, ap, arith, ◌∙◌}
+use Rattle.std.proofs.Common.{◌*◌, ◌+◌, ◌≤◌, arith, ◌∙◌}
 use Rattle.vb_active.proofs.Written.{gap-page, patched-page}
 use Rattle.vb_active.proofs.active.Active.written_page.Goals as goal
 

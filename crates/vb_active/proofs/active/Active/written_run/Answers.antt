@@ -1,4 +1,4 @@
-use Rattle.std.proofs.Common.{◌≡◌, ◌+◌, ℕ, List, ◌++◌, ◌∷◌, [], length, refl, subst, sym, ap, ◌∙◌, arith, length-append}
+use Rattle.std.proofs.Common.{ℕ, List, ◌∷◌, [], length, subst, sym, ap, ◌∙◌, arith, length-append}
 use Rattle.vb_tree.specs.Contents.{written_over, page_of}
 use Rattle.vb_active.specs.Replacing.{ArePagesFrom}
 use Rattle.vb_active.proofs.Causes.{looked-on}

@@ -1,9 +1,9 @@
-use Rattle.std.proofs.Common.{◌≡◌, ℕ, ◌+◌, ◌≤◌, List, Some, length}
+use Rattle.std.proofs.Common.{◌≡◌, ℕ, ◌+◌, List, Some, length}
 use Rattle.vb_disk.specs.States.{DiskState}
 use Rattle.vb_index.specs.Contents.{HasPages}
 use Rattle.vb_tree.specs.Contents.{written_over}
 use Rattle.vb_active.specs.Replacing.{ArePagesFrom}
-use Rattle.vb_active.specs.Views.{ActiveState, Backs, due_page}
+use Rattle.vb_active.specs.Views.{Backs, due_page}
 use Rattle.vb_active.proofs.Causes.{Looked}
 use Rattle.vb_active.proofs.active.Active.written_run.Given as goal
 

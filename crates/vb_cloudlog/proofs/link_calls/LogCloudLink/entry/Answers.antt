@@ -1,4 +1,4 @@
-use Rattle.std.proofs.Common.{rules, ◌≡◌, ◌≤◌, length, refl}
+use Rattle.std.proofs.Common.{rules, ◌≤◌, length, refl}
 use Rattle.vb_cloudlog.proofs.SentFrames.{past-entries}
 use Rattle.vb_cloudlog.proofs.link_calls.LogCloudLink.entry.Goals as goal
 

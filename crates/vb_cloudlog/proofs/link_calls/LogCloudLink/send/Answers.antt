@@ -1,4 +1,3 @@
-use Rattle.std.proofs.Common.{rules}
 use Rattle.vb_cloudlog.proofs.SentFrames.{own-later}
 use Rattle.vb_cloudlog.proofs.link_calls.LogCloudLink.send.Goals as goal
 

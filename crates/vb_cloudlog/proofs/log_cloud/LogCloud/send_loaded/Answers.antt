@@ -13,6 +13,7 @@ returns-in-Err-apply g c =
     let both = takes-refused l.cloud c.apply.new.self c.args.msg.now c.in-Err-apply.refusal other c.in-Err-apply.ensures.step in
     record {
       answer = λ k is. (sent-refused told l.cloud k c.args.msg.now c.in-Err-apply.refusal (λ all has on. l.held all has c.requires) both.0 is, is);
+      appended = λ all has. tt;
       untold = λ is. is;
       cause = refused-cause (g.F.LogFile.faults l.file) l.own c.raised-self.result c.in-Err-apply.refusal c.raised-self.ensures;
       own = c.raised-self.ensures;

@@ -1,4 +1,3 @@
-use Rattle.std.proofs.Common.{◌≡◌}
 use Rattle.vb_cloudlog.proofs.Steps.{began-took, began-kept}
 use Rattle.vb_cloudlog.proofs.replay.Replay.begin.Goals as goal
 

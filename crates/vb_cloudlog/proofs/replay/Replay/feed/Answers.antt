@@ -1,4 +1,4 @@
-use Rattle.std.proofs.Common.{◌≡◌, ◌≤◌, ◌+◌, ◌-◌, length, take, drop, ap, sym, ◌∙◌, arith, rules}
+use Rattle.std.proofs.Common.{length, take, drop, ap, sym, ◌∙◌, arith}
 use Rattle.vb_cloudlog.specs.Messages.{opening_of}
 use Rattle.vb_cloudlog.specs.Replays.{ReplayState, fed}
 use Rattle.vb_cloudlog.proofs.Feeding.{fed-nothing, fed-piece}

@@ -1,6 +1,6 @@
-use Rattle.std.proofs.Common.{◌≡◌, ◌<◌, ◌≤◌, ◌-◌, length, arith, sym, rules}
+use Rattle.std.proofs.Common.{arith}
 use Rattle.vb_cloudlog.specs.declared.play.Played.TheVariants.{Taken, Kept}
-use Rattle.vb_cloudlog.proofs.Steps.{played-on, went-took, took-within, kept, some-more}
+use Rattle.vb_cloudlog.proofs.Steps.{played-on, went-took, took-within, kept}
 use Rattle.vb_cloudlog.proofs.replay.Replay.go_on.Goals as goal
 
 pub overflow_sub-result : goal.overflow_sub-result

@@ -1,4 +1,4 @@
-use Rattle.std.proofs.Common.{◌≡◌, sym, ap, ◌∙◌, subst}
+use Rattle.std.proofs.Common.{sym, ap, ◌∙◌, subst}
 use Rattle.vb_cloud.specs.Valid.{IsCloudState}
 use Rattle.vb_cloudlog.specs.Messages.{opening_of}
 use Rattle.vb_cloudlog.proofs.Openings.{opening-nothing}

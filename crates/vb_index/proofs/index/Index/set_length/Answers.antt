@@ -1,6 +1,5 @@
 use Rattle.std.proofs.Common.{◌≡◌, ℕ, List, Option, Some, OnOk, set, is_some, true, sym, ap, ◌∙◌, subst}
 use Rattle.vb_index.specs.declared.held.Held.{Held}
-use Rattle.vb_tree.specs.Trees.{with_bytes_at}
 use Rattle.vb_index.specs.Nodes.{held_at, refs_at, slot_at}
 use Rattle.vb_index.specs.Changes.{resized}
 use Rattle.vb_index.specs.Indexes.{IndexState}

@@ -4,7 +4,7 @@ use Rattle.std.specs.Ordering.{nat_cmp}
 use Rattle.std.specs.Cmp.Lexicographic.{slice_cmp}
 use Rattle.vb_index.specs.declared.held.Held.{Held}
 use Rattle.vb_tree.specs.Renames.{is_deep}
-use Rattle.vb_index.specs.Heights.{path_to, IsRooted}
+use Rattle.vb_index.specs.Heights.{path_to}
 use Rattle.vb_index.specs.Nodes.{same_name, IsTable}
 use Rattle.vb_index.proofs.Growth.{Fills}
 use Rattle.vb_index.proofs.Heights.{rooted-fill}

@@ -1,4 +1,4 @@
-use Rattle.std.proofs.Common.{rules, ◌∙◌, sym, ap, subst}
+use Rattle.std.proofs.Common.{rules, ◌∙◌, ap}
 use Rattle.vb_journal.specs.Interruptions.{is_synced_in}
 use Rattle.vb_journal.proofs.Answering.{ahead-of, answers-of}
 use Rattle.vb_journal.proofs.RecoverAnswers.{leaves-made, lends-made, makes-gone, makes-went, noted-made, stage-steps, takes-made}

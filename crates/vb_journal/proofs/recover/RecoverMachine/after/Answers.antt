@@ -1,4 +1,4 @@
-use Rattle.std.proofs.Common.{◌≡◌, ◌≤◌, ◌+◌, Bool, cond, sym, subst}
+use Rattle.std.proofs.Common.{◌≤◌, sym, subst}
 use Rattle.std.specs.Prelude.{vec_len}
 use Rattle.vb_journal.specs.Recovering.{most_slots}
 use Rattle.vb_journal.proofs.RecoverStages.{slots-noted}
