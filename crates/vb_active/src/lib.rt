@@ -20,4 +20,6 @@ pub use vb_pages::{PageError, PageTable};
 pub use vb_tree::{Op, Refusal, Reply};
 
 #[cfg(test)]
+mod table_tests;
+#[cfg(test)]
 mod tests;

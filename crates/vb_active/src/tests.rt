@@ -11,9 +11,8 @@ use std::test::Fail;
 use vb_block::page_digest;
 use vb_disk::MemoryDisk;
 use vb_index::{Bytes, Limits, Path};
-use vb_tree::Plain;
 
-const LIMITS: Limits = Limits {
+pub(crate) const LIMITS: Limits = Limits {
     pages: 20,
     nodes: 16,
 };
@@ -22,24 +21,24 @@ const TWO_PAGES: [u8; 8192] = [7; 8192];
 
 // A view and the disk below it.
 #[derive(Drop)]
-struct Live {
-    view: Active,
-    disk: MemoryDisk,
+pub(crate) struct Live {
+    pub view: Active,
+    pub disk: MemoryDisk,
     ghost below: { LiesBelow (state_of disk).size view },
 }
 
-fn path(alloc: Global, text: &[u8]) -> Result<Path, Fail> {
+pub(crate) fn path(alloc: Global, text: &[u8]) -> Result<Path, Fail> {
     Ok(Path::parse(alloc, text)?)
 }
 
 // An empty view over a disk of 64 blocks.
-fn empty(alloc: Global) -> Result<Live, Fail> {
+pub(crate) fn empty(alloc: Global) -> Result<Live, Fail> {
     let disk = MemoryDisk::new(alloc, 64)?;
     let view = Active::of(alloc, Index::new(alloc, LIMITS)?);
     Ok(Live { view, disk })
 }
 
-fn perform(live: &mut Live, alloc: Global, op: &Op) -> Result<Reply, PageError>
+pub(crate) fn perform(live: &mut Live, alloc: Global, op: &Op) -> Result<Reply, PageError>
     requires { IsInRange op.now }
 {
     live.view.perform(alloc, &mut live.disk, op)
@@ -94,7 +93,13 @@ fn is_kept(live: &Live, page: u32) -> bool {
 }
 
 // Puts a page of the table on the disk, where it is in the table.
-fn place(live: &mut Live, alloc: Global, slot: u32, page: u32, place: u32) -> Result<(), Fail>
+pub(crate) fn place(
+    live: &mut Live,
+    alloc: Global,
+    slot: u32,
+    page: u32,
+    place: u32,
+) -> Result<(), Fail>
     requires { place < 64 }
 {
     let kept = match live.view.pages().get(slot, page) {
@@ -180,10 +185,16 @@ fn the_same_length_keeps_no_page(rt: HostRuntime) -> Result<(), Fail> {
     Ok(())
 }
 
+// Lists a failure of a call of the disk.
+fn fail(live: &mut Live, nth: u32) -> Result<(), Fail> {
+    live.disk.fail_call(nth, false)?;
+    Ok(())
+}
+
 #[test]
 fn the_first_read_that_fails_leaves_the_view(rt: HostRuntime) -> Result<(), Fail> {
     let mut live = two_pages(rt.alloc())?;
-    live.disk.fail_call(1, false)?;
+    fail(&mut live, 1)?;
     assert_eq!(rt;
         write_nine(&mut live, rt.alloc())?,
         Err(PageError::DiskFault)
@@ -195,7 +206,7 @@ fn the_first_read_that_fails_leaves_the_view(rt: HostRuntime) -> Result<(), Fail
 #[test]
 fn the_second_read_that_fails_leaves_the_view(rt: HostRuntime) -> Result<(), Fail> {
     let mut live = two_pages(rt.alloc())?;
-    live.disk.fail_call(2, false)?;
+    fail(&mut live, 2)?;
     assert_eq!(rt;
         write_nine(&mut live, rt.alloc())?,
         Err(PageError::DiskFault)
@@ -233,127 +244,6 @@ fn a_hurt_page_that_is_not_needed_is_not_read(rt: HostRuntime) -> Result<(), Fai
     Ok(())
 }
 
-// The view and the plain tree, side by side.
-#[derive(Drop)]
-struct Both {
-    live: Live,
-    plain: Plain,
-    on_disk: bool,
-}
-
-// Whether both answer an operation alike. Afterwards the pages of the slot 1 are put on the disk, where that is asked
-// for.
-fn agree(both: &mut Both, alloc: Global, op: &Op) -> Result<bool, Fail>
-    requires { IsInRange op.now }
-{
-    let due = both.plain.perform(alloc, op)?;
-    let answer = perform(&mut both.live, alloc, op)?;
-    if both.on_disk {
-        place_all(&mut both.live, alloc)?;
-    }
-    Ok(answer == due)
-}
-
-// Puts the first pages of the slot 1 on the disk.
-fn place_all(live: &mut Live, alloc: Global) -> Result<(), Fail> {
-    for page in 0..4u32 {
-        place(live, alloc, 1, page, 4 + page)?;
-    }
-    Ok(())
-}
-
-fn creates(both: &mut Both, alloc: Global) -> Result<bool, Fail> {
-    let path = path(alloc, b"/a")?;
-    agree(both, alloc, &Op::Create { path })
-}
-
-fn writes(both: &mut Both, alloc: Global, offset: u64, bytes: &[u8]) -> Result<bool, Fail>
-    requires from { offset < 2 ^ 63 }
-    requires few { length bytes.now ≤ 65536 }
-{
-    let path = path(alloc, b"/a")?;
-    let bytes = Bytes::of(alloc, bytes)?;
-    agree(
-        both,
-        alloc,
-        &Op::Write {
-            path,
-            offset,
-            bytes,
-        },
-    )
-}
-
-fn cuts(both: &mut Both, alloc: Global, length: u64) -> Result<bool, Fail>
-    requires { length < 2 ^ 63 }
-{
-    let path = path(alloc, b"/a")?;
-    agree(both, alloc, &Op::Truncate { path, length })
-}
-
-fn reads(both: &mut Both, alloc: Global) -> Result<bool, Fail> {
-    let path = path(alloc, b"/a")?;
-    agree(
-        both,
-        alloc,
-        &Op::Read {
-            path,
-            offset: 10,
-            length: 20_000,
-        },
-    )
-}
-
-// Whether a write and a read after it are answered alike.
-fn agree_on_write(both: &mut Both, alloc: Global, offset: u64, bytes: &[u8]) -> Result<bool, Fail>
-    requires from { offset < 2 ^ 63 }
-    requires few { length bytes.now ≤ 65536 }
-{
-    let done = writes(both, alloc, offset, bytes)?;
-    Ok(done && reads(both, alloc)?)
-}
-
-// Whether a length and a read after it are answered alike.
-fn agree_on_length(both: &mut Both, alloc: Global, length: u64) -> Result<bool, Fail>
-    requires { length < 2 ^ 63 }
-{
-    let done = cuts(both, alloc, length)?;
-    Ok(done && reads(both, alloc)?)
-}
-
-fn both_trees(alloc: Global, on_disk: bool) -> Result<Both, Fail> {
-    let live = empty(alloc)?;
-    let mut both = Both {
-        live,
-        plain: Plain::new(alloc, LIMITS),
-        on_disk,
-    };
-    let _ = creates(&mut both, alloc)?;
-    Ok(both)
-}
-
-fn files_agree(alloc: Global, on_disk: bool) -> Result<bool, Fail> {
-    let mut both = both_trees(alloc, on_disk)?;
-    let over = agree_on_write(&mut both, alloc, 100, &TWO_PAGES)?;
-    let within = agree_on_length(&mut both, alloc, 5000)?;
-    let gap = agree_on_write(&mut both, alloc, 14_000, b"behind a gap")?;
-    let longer = agree_on_length(&mut both, alloc, 16_000)?;
-    let refused = agree_on_length(&mut both, alloc, 90_000)?;
-    Ok(over && within && gap && longer && refused)
-}
-
-#[test]
-fn pages_in_memory_answer_as_the_plain_tree(rt: HostRuntime) -> Result<(), Fail> {
-    assert!(rt; files_agree(rt.alloc(), false)?);
-    Ok(())
-}
-
-#[test]
-fn pages_on_the_disk_answer_as_the_plain_tree(rt: HostRuntime) -> Result<(), Fail> {
-    assert!(rt; files_agree(rt.alloc(), true)?);
-    Ok(())
-}
-
 // What a small write at an offset leaves in memory of a file of one byte.
 fn pages_after_a_gap(alloc: Global) -> Result<(bool, bool, bool), Fail> {
     let mut live = empty(alloc)?;
@@ -363,6 +253,30 @@ fn pages_after_a_gap(alloc: Global) -> Result<(bool, bool, bool), Fail> {
     place(&mut live, alloc, 1, 0, 40)?;
     let _ = write(&mut live, alloc, 8192, b"y")??;
     Ok((is_kept(&live, 0), is_kept(&live, 1), is_kept(&live, 2)))
+}
+
+// Cuts the file to 5,000 bytes, whose pages then stand at the places 34 and 35.
+fn shorten(live: &mut Live, alloc: Global) -> Result<(), Fail> {
+    let _ = truncate(live, alloc, 5000)?;
+    place(live, alloc, 1, 1, 35)
+}
+
+// Hurts the place 35.
+fn hurt_second(live: &mut Live) -> Result<(), Fail> {
+    let page = live.disk.miss(35)?;
+    hurt_place(live, page)
+}
+
+#[test]
+fn a_hurt_page_without_a_byte_that_stays_is_not_read(rt: HostRuntime) -> Result<(), Fail> {
+    let mut live = two_pages(rt.alloc())?;
+    shorten(&mut live, rt.alloc())?;
+    hurt_second(&mut live)?;
+    assert_eq!(rt;
+        write(&mut live, rt.alloc(), 4096, &TWO_PAGES[..904])?,
+        Ok(Reply::Done)
+    );
+    Ok(())
 }
 
 #[test]
