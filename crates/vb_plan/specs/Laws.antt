@@ -1,9 +1,10 @@
 -- What the laws of plans speak of.
-use Rattle.std.specs.Prelude.{ℕ, not, List, length, Option}
+use Rattle.std.specs.Prelude.{ℕ, not, List, length, map, Option}
 use Rattle.std.specs.List.{filter, range_with_len, sum_by}
 use Rattle.vb_inode.specs.declared.next_view.NextNode.{NextNode}
 use Rattle.vb_inode.specs.declared.next_view.PageSource.{PageSource}
 use Rattle.vb_inode.specs.declared.next_view.PageSource.TheVariants.{Kept, Fresh}
+use Rattle.vb_inode.specs.declared.node.Node.{Node}
 use Rattle.vb_inode.specs.Layout.{node_page}
 use Rattle.vb_index.specs.declared.held.Held.{Held}
 use Rattle.vb_tree.specs.Trees.{pages_of_length}
@@ -28,6 +29,10 @@ pages_of_next next = sum_by (λ x. pages_of_length x.node.length) next
 -- what each slot holds after a commit to these nodes
 abbrev pub slots_next : Basis → List NextNode → List (Option Held)
 slots_next basis next = by_slot (length basis.nodes) (all_held basis 0 next)
+
+-- the nodes that the slots hold after a commit, and a free one in each other slot
+abbrev pub nodes_next : Basis → List NextNode → List Node
+nodes_next basis next = map (λ slot. node_in slot (node_at (slots_next basis next) slot)) (range_with_len 0 (length basis.nodes))
 
 -- the slots whose node changes, upwards
 abbrev pub changed_slots : Basis → List NextNode → List ℕ

@@ -5,4 +5,6 @@ pub mod Conditions
 pub mod Seen
 pub mod Shown
 pub mod Laws
+pub mod Following
+pub mod Places
 pub mod Worked
