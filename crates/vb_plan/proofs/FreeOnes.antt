@@ -49,13 +49,13 @@ abbrev pub times : ℕ → List ℕ → ℕ
 times place places = count_by (λ p. p == place) places
 
 -- 1 where a place is this one
-abbrev one_if : ℕ → ℕ → ℕ
+abbrev pub one_if : ℕ → ℕ → ℕ
 one_if place q = cond (q == place) 1 0
 
-times-cons : (place q : ℕ) (places : List ℕ) → times place (q ∷ places) ≡ one_if place q + times place places
+pub times-cons : (place q : ℕ) (places : List ℕ) → times place (q ∷ places) ≡ one_if place q + times place places
 times-cons place q places = sum_by-cons (one_if place) q places
 
-times-append : (place : ℕ) (a b : List ℕ) → times place (a ++ b) ≡ times place a + times place b
+pub times-append : (place : ℕ) (a b : List ℕ) → times place (a ++ b) ≡ times place a + times place b
 times-append place a b = sum_by-append (one_if place) a b
 
 one_if-test : (place q : ℕ) (b : Bool) → (q == place) ≡ b → one_if place q ≡ cond b 1 0

@@ -11,3 +11,9 @@ pub mod ChangedSlots
 pub mod References
 pub mod Sealed
 pub mod FirstPlan
+pub mod Bare
+pub mod Listed
+pub mod Weighed
+pub mod Parents
+pub mod NextTrees
+pub mod PlacesNext

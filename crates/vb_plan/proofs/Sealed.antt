@@ -18,6 +18,7 @@ use Rattle.vb_inode.specs.Reading.{IsNodeOf}
 use Rattle.vb_inode.proofs.Decoded.{Holds-node_page}
 use Rattle.vb_plan.specs.Conditions.{CanPlan, CanSeal, IsNextNode}
 use Rattle.vb_plan.specs.Maps.{FileRefs, committed_refs, group_at, group_count, map_source, map_sources, maps_in, same_refs, source_of_map, standing_map}
+use Rattle.vb_plan.specs.Laws.{slots_next}
 use Rattle.vb_plan.specs.Plans.{Basis, all_held, by_slot, held_next, image_of, images_in, images_of, node_at, node_in, same_in_slot}
 use Rattle.vb_plan.specs.Sources.{ref_from, refs_from, taken_after}
 use Rattle.vb_plan.proofs.Nexts.{all_cons, all_held_are, all_tail, in_range_next}
@@ -65,13 +66,17 @@ maps_given old refs are =
     (λ k d within. (let number = get_or (range_with_len 0 (group_count refs)) k d in
     source_given (group_at number refs) (standing_map old number (group_at number refs)) (λ r is. standing_given old.maps number (same_refs (group_at number refs) (group_at number old.refs)) r are is)))
 
+-- its map pages have references that can stand in a block
+pub maps_are_refs : (basis : Basis) (taken : ℕ) (x : NextNode) → ((slot : ℕ) → AreRefs (maps_in (held_at basis.nodes slot))) → All (λ place. place < 2 ^ 32) basis.free → AreRefs (held_next basis taken x).node.maps
+maps_are_refs basis taken x committed free = refs_given basis.free _ _ free (maps_given (committed_refs basis.nodes x.node.slot) _ (committed x.node.slot))
+
 -- what a slot holds next is a node of the store
 node_given : (basis : Basis) (taken : ℕ) (x : NextNode) → length basis.nodes ≤ 2 ^ 32 → ((slot : ℕ) → AreRefs (maps_in (held_at basis.nodes slot))) → All (λ place. place < 2 ^ 32) basis.free → IsNextNode (length basis.nodes) x × (x.node.parent < length basis.nodes) → IsNodeOf (length basis.nodes) (held_next basis taken x).node
 node_given basis taken x few committed free is = record {
   slot = omega (arith, is.0.slot);
   parent = is.1;
   in_range = in_range_next basis taken x is.0;
-  refs = refs_given basis.free _ _ free (maps_given (committed_refs basis.nodes x.node.slot) _ (committed x.node.slot));
+  refs = maps_are_refs basis taken x committed free;
 }
 
 free_given : (slots slot : ℕ) → slot < slots → slots ≤ 2 ^ 32 → IsNodeOf slots (node_in slot None)
@@ -107,19 +112,26 @@ images_sealed old new (slot ∷ slots) each =
 both : {X : Type 0} (P Q : X → Type 0) (xs : List X) → All P xs → All Q xs → All (λ x. P x × Q x) xs
 both P Q xs p q k d within = (p k d within, q k d within)
 
+-- what stands in a slot next is a node of the store
+pub node_next_given : (basis : Basis) (next : List NextNode) → All (IsNextNode (length basis.nodes)) next → CanSeal basis next → (slot : ℕ) → slot < length basis.nodes → IsNodeOf (length basis.nodes) (node_in slot (node_at (slots_next basis next) slot))
+node_next_given basis next nodes seal slot within =
+    let slots = length basis.nodes in
+    let held = all_held basis 0 next in
+    let each : All (λ h. IsNodeOf slots h.node) held =
+    all_held_are (λ (x : NextNode). IsNextNode slots x × (x.node.parent < slots)) (λ (h : Held). IsNodeOf slots h.node) basis (λ taken x is. node_given basis taken x seal.few seal.maps seal.free is) 0 next
+    (both (IsNextNode slots) (λ (x : NextNode). x.node.parent < slots) next nodes seal.parents) in
+    node_in_given slots slot (node_at (by_slot slots held) slot) within seal.few (node_holds (IsNodeOf slots) slots held each slot)
+
 -- each image of a plan is sealed
 pub plan_sealed : (basis : Basis) (next : List NextNode) → CanPlan basis next → CanSeal basis next → All IsSealed (images_of basis.nodes (all_held basis 0 next))
 plan_sealed basis next can seal =
     let slots = length basis.nodes in
     let held = all_held basis 0 next in
-    let each : All (λ h. IsNodeOf slots h.node) held =
-    all_held_are (λ (x : NextNode). IsNextNode slots x × (x.node.parent < slots)) (λ (h : Held). IsNodeOf slots h.node) basis (λ taken x is. node_given basis taken x seal.few seal.maps seal.free is) 0 next
-    (both (IsNextNode slots) (λ (x : NextNode). x.node.parent < slots) next can.nodes seal.parents) in
     images_sealed basis.nodes (by_slot slots held) (range_with_len 0 slots)
     (λ k d within. (
     let slot = get_or (range_with_len 0 slots) k d in
     let count : k < slots = omega (arith, within, length-range_with_len 0 slots) in
     let at : slot ≡ 0 + k = get_or-range_with_len 0 slots k d count in
     let node = node_in slot (node_at (by_slot slots held) slot) in
-    let is : IsNodeOf slots node = node_in_given slots slot (node_at (by_slot slots held) slot) (omega (arith, at, count)) seal.few (node_holds (IsNodeOf slots) slots held each slot) in
+    let is : IsNodeOf slots node = node_next_given basis next can.nodes seal slot (omega (arith, at, count)) in
     (Holds-node_page slots (node_page node) node seal.few is refl).is_sealed))

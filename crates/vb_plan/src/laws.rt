@@ -1,17 +1,23 @@
 // Laws of plans, each the contract of a function that does nothing.
-ghost use Rattle.std.specs.Prelude.{◌≡◌, ◌↔◌, ◌==◌, ◌<◌, ◌≤◌, ℕ, List, length, get_or, map, take, count_by, All, Contains, Option, Some, slice_get, ◌+◌, true};
+ghost use Rattle.std.specs.Prelude.{◌≡◌, ◌↔◌, ◌==◌, ◌<◌, ◌≤◌, ℕ, List, length, get_or, map, take, count_by, All, Contains, Option, Some, slice_get, ◌+◌, ◌⊎◌, true};
 ghost use Rattle.vb_index.specs.Indexes.{IndexState};
 ghost use Rattle.vb_block.specs.declared.digest.Ref.{Ref};
 ghost use Rattle.vb_inode.specs.declared.next_view.NextNode.{NextNode};
 ghost use Rattle.vb_inode.specs.declared.next_view.PageSource.{PageSource};
 ghost use Rattle.vb_inode.specs.declared.next_view.PageSource.TheVariants.{Fresh, Kept};
 ghost use Rattle.vb_inode.specs.declared.node.Node.{Node};
-ghost use Rattle.vb_space.specs.Spaces.{committed_count, free_places, next_count, DataPlaces, IsFree};
+ghost use Rattle.vb_space.specs.Spaces.{committed_count, free_places, next_count, DataPlaces, IsCommitted, IsFree};
 ghost use Rattle.vb_block.specs.Pages.{IsSealed};
 ghost use Rattle.vb_plan.specs.Worked.{AreLongPlans, AreSmallPlans};
-ghost use Rattle.vb_tree.specs.Trees.{data_pages_of};
+ghost use Rattle.vb_tree.specs.Trees.{data_pages_of, map_pages_of};
+ghost use Rattle.vb_index.specs.declared.held.Held.{Held};
+ghost use Rattle.vb_index.specs.Nodes.{held_at, pages_in};
+ghost use Rattle.vb_plan.specs.Places.{places_in};
 ghost use Rattle.vb_plan.specs.Conditions.{CanPlan, CanSeal};
-ghost use Rattle.vb_plan.specs.Laws.{block_next, changed_slots, digest_of, pages_of_next, place_of, slots_next};
+ghost use Rattle.vb_nodes.specs.Faults.{IsNodeTree};
+ghost use Rattle.vb_nodes.specs.Holdings.{pages_of_nodes};
+ghost use Rattle.vb_plan.specs.Following.{CanFollow, IsNextTree};
+ghost use Rattle.vb_plan.specs.Laws.{block_next, changed_slots, digest_of, nodes_next, pages_of_next, place_of, slots_next};
 ghost use Rattle.vb_plan.specs.Plans.{node_at, plan_of, same_in_slot, Basis};
 ghost use Rattle.vb_plan.specs.declared.plan_page.PlanPage.{PlanPage};
 ghost use Rattle.vb_plan.specs.Seen.{basis_of};
@@ -79,4 +85,51 @@ pub fn images_of_plans_are_sealed()
 pub fn plans_are_as_worked()
     ensures small { AreSmallPlans }
     ensures long { AreLongPlans }
+{}
+
+/// A list that can follow a committed view can be planned over it, where no next view is begun and the limits, which
+/// the committed view keeps to, are half of the places; and its nodes have slots of the store as their parents. It does nothing.
+pub fn a_list_that_can_follow_can_be_planned()
+    ensures can { (index : IndexState) (space : DataPlaces) (next : List NextNode) → CanFollow index next
+        → committed_count space ≤ index.limits.pages → next_count space ≡ 0
+        → index.limits.pages + index.limits.pages ≤ length space.users → CanPlan (basis_of index space) next }
+    ensures parents { (slots : ℕ) (next : List NextNode) → IsNextTree slots next
+        → All (λ x. x.node.parent < slots) next }
+{}
+
+/// What the slots hold after the commit of a tree are the nodes of a tree too, which a mount takes, with as many pages.
+/// It does nothing.
+pub fn next_nodes_are_a_tree()
+    ensures tree { (basis : Basis) (next : List NextNode) → IsNextTree (length basis.nodes) next → CanSeal basis next
+        → length basis.nodes ≤ 65536 → IsNodeTree (nodes_next basis next) }
+    ensures pages { (basis : Basis) (next : List NextNode) → IsNextTree (length basis.nodes) next
+        → pages_of_nodes (nodes_next basis next) ≡ pages_of_next next }
+{}
+
+/// Where the committed nodes name each place once, and those places are used by the committed view, the nodes after the
+/// commit name each place once too. Each is one that the committed nodes name or that of a page to write, and the place of each
+/// page to write is one of them. It does nothing.
+pub fn next_nodes_name_each_place_once()
+    ensures once { (index : IndexState) (space : DataPlaces) (next : List NextNode) (place : ℕ)
+        → CanPlan (basis_of index space) next
+        → count_by (λ p. p == place) (places_in index.nodes) ≤ 1
+        → (Contains (places_in index.nodes) place → IsCommitted space place)
+        → count_by (λ p. p == place) (places_in (slots_next (basis_of index space) next)) ≤ 1 }
+    ensures named { (basis : Basis) (next : List NextNode) (place : ℕ) → CanPlan basis next
+        → Contains (places_in (slots_next basis next)) place
+        → Contains (places_in basis.nodes) place ⊎ Contains (map place_of (plan_of basis next).pages) place }
+    ensures written { (basis : Basis) (next : List NextNode) (place : ℕ) → CanPlan basis next
+        → Contains (map place_of (plan_of basis next).pages) place
+        → Contains (places_in (slots_next basis next)) place }
+{}
+
+/// After a commit each file has its pages, and as many map pages as these take; and all files take as many pages as the
+/// list says. It does nothing.
+pub fn next_files_have_their_pages()
+    ensures refs { (basis : Basis) (next : List NextNode) (slot : ℕ) (held : Held) → CanPlan basis next
+        → held_at (slots_next basis next) slot ≡ Some held → length held.refs ≡ data_pages_of held.node.length }
+    ensures maps { (basis : Basis) (next : List NextNode) (slot : ℕ) (held : Held) → CanPlan basis next
+        → held_at (slots_next basis next) slot ≡ Some held → length held.node.maps ≡ map_pages_of held.node.length }
+    ensures pages { (basis : Basis) (next : List NextNode) → CanPlan basis next
+        → pages_in (slots_next basis next) ≡ pages_of_next next }
 {}

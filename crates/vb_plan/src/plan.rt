@@ -70,6 +70,13 @@ impl Plan {
         self.pages.pop()
     }
 
+    /// How many pages are left to be written.
+    pub fn pages_left(&self) -> usize
+        ensures { result ≡ length self.now.pages }
+    {
+        self.pages.len()
+    }
+
     /// What the slots of the next view hold, in its order. The plan has them no longer. It takes no memory.
     pub fn take_nodes(&mut self, alloc: Global) -> HeldNodes
         ensures taken { result ≡ self.old.nodes }
