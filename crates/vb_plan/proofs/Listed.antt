@@ -57,7 +57,7 @@ none-passes p [] k d none within = absurd (omega arith)
 none-passes p (x ∷ xs) zero d none within = first-fails p x xs none
 none-passes p (x ∷ xs) (suc k) d none within = none-passes p xs k d (omega (arith, none, count-cons p x xs)) (omega arith)
 
-same-some : {X : Type 0} (x y : X) → Some x ≡ Some y → x ≡ y
+pub same-some : {X : Type 0} (x y : X) → Some x ≡ Some y → x ≡ y
 same-some x y e = cc
 
 -- what is found passes

@@ -1,5 +1,6 @@
 // Laws of plans, each the contract of a function that does nothing.
-ghost use Rattle.std.specs.Prelude.{◌≡◌, ◌↔◌, ◌==◌, ◌<◌, ◌≤◌, ℕ, List, length, get_or, map, take, count_by, All, Contains, Option, Some, slice_get, ◌+◌, ◌⊎◌, true};
+ghost use Rattle.std.specs.Prelude.{◌≡◌, ◌↔◌, ◌==◌, ◌<◌, ◌≤◌, ◌+◌, ◌⊎◌, true, ℕ, Option, Some};
+ghost use Rattle.std.specs.Prelude.{List, length, get_or, map, take, count_by, slice_get, All, Contains};
 ghost use Rattle.vb_index.specs.Indexes.{IndexState};
 ghost use Rattle.vb_block.specs.declared.digest.Ref.{Ref};
 ghost use Rattle.vb_inode.specs.declared.next_view.NextNode.{NextNode};

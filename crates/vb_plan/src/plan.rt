@@ -89,7 +89,7 @@ impl Plan {
     pub fn steps_due(&self) -> u64
         ensures { result ≡ steps_due self.now }
     {
-        self.pages.len() as u64 + 2 * self.images.len() as u64 + 10
+        self.pages_left() as u64 + 2 * self.images.len() as u64 + 10
     }
 
     /// The images of the journal, sealed, by slot. No page is left to be written.
