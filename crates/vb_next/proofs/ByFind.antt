@@ -30,21 +30,11 @@ use Rattle.vb_frozen.specs.Orders.{entry_for, order_of, AreApart}
 use Rattle.vb_frozen.specs.Sources.{next_node, next_of, next_root}
 use Rattle.vb_plan.specs.Following.{node_of_slot, nodes_by_slot}
 use Rattle.vb_plan.specs.Plans.{node_in}
-use Rattle.vb_plan.proofs.Listed.{count-cons, found-first, found-later, found-passes, if-no, if-yes, same-some}
+use Rattle.vb_plan.proofs.Listed.{count-cons, found-first, found-in, found-later, found-passes, if-no, if-yes, same-some}
 use Rattle.vb_plan.proofs.Parents.{by_slot_at}
 use Rattle.vb_next.proofs.Standing.{all-stand, not-equal, root-stands, IsBelow, StandsIn}
 
 -- ---- what is found
-
--- what is found is in the list
-found-in : {X : Type 0} (p : X → Bool) (xs : List X) (y : X) → find p xs ≡ Some y → Contains xs y
-found-in p [] y e = absurd (cc)
-found-in p (x ∷ xs) y e = elim (cases_Bool (p x)) [
-  | inl t ↦ (0, omega arith, same-some x y (sym (found-first p x xs t) ∙ e))
-  | inr t ↦ (
-      let later = found-in p xs y (sym (found-later p x xs t) ∙ e) in
-      (suc later.0, omega (arith, later.1), later.2))
-]
 
 some-none : {X : Type 0} (x : X) → Some x ≡ None → ⊥
 some-none x e = cc

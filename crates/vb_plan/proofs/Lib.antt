@@ -17,3 +17,4 @@ pub mod Weighed
 pub mod Parents
 pub mod NextTrees
 pub mod PlacesNext
+pub mod Stood

@@ -1,6 +1,6 @@
 -- What stands in a slot after a commit is what the list of all nodes has for it.
 use Rattle.std.proofs.Common.{◌≡◌, ◌≢◌, ℕ, zero, suc, ◌+◌, ◌<◌, ◌≤◌, ◌==◌, Bool, true, false, cond, List, [], ◌∷◌, length, get_or, set, replicate, Option, None, Some, inl, inr, refl, sym, ap, ◌∙◌, arith}
-use Rattle.std.specs.Prelude.{count_by}
+use Rattle.std.specs.Prelude.{count_by, Contains}
 use Rattle.std.specs.List.{find}
 use Rattle.std.specs.Option.{option_map, option_or}
 use Rattle.std.proofs.lemmas.Bool.{cases_Bool, eqb-true, false≢true}
@@ -66,6 +66,16 @@ found-passes p [] y e = absurd (cc)
 found-passes p (x ∷ xs) y e = elim (cases_Bool (p x)) [
   | inl t ↦ sym (ap p (same-some x y (sym (found-first p x xs t) ∙ e))) ∙ t
   | inr t ↦ found-passes p xs y (sym (found-later p x xs t) ∙ e)
+]
+
+-- what is found is in the list
+pub found-in : {X : Type 0} (p : X → Bool) (xs : List X) (y : X) → find p xs ≡ Some y → Contains xs y
+found-in p [] y e = absurd (cc)
+found-in p (x ∷ xs) y e = elim (cases_Bool (p x)) [
+  | inl t ↦ (0, omega arith, same-some x y (sym (found-first p x xs t) ∙ e))
+  | inr t ↦ (
+      let later = found-in p xs y (sym (found-later p x xs t) ∙ e) in
+      (suc later.0, omega (arith, later.1), later.2))
 ]
 
 -- the only one that passes is found

@@ -1,9 +1,11 @@
 -- What the slots hold after the commit of a tree are the nodes of a tree.
-use Rattle.std.proofs.Common.{◌≡◌, ℕ, false, zero, suc, ◌+◌, ◌<◌, ◌≤◌, ◌==◌, List, [], ◌∷◌, length, get_or, map, take, All, Option, None, Some, refl, sym, ap, ◌∙◌, arith, subst}
+use Rattle.std.proofs.Common.{◌≡◌, ℕ, false, zero, suc, ◌+◌, ◌<◌, ◌≤◌, ◌==◌, List, [], ◌∷◌, length, get_or, map, take, replicate, All, Option, None, Some, refl, sym, ap, ◌∙◌, arith, subst}
 use Rattle.std.specs.Prelude.{count_by}
 use Rattle.std.specs.Option.{option_map}
 use Rattle.std.specs.List.{range_with_len, sum_by}
+use Rattle.std.proofs.lemmas.List.{length-replicate}
 use Rattle.std.proofs.lemmas.List.FromFn.{get_or-map-range_with_len, length-map-range_with_len}
+use Rattle.std.proofs.lemmas.List.Folds.{sum_by-replicate}
 use Rattle.std.proofs.lemmas.List.Sums.{sum_by-cons}
 use Rattle.vb_space.specs.Spaces.{DataPlaces, committed_count, next_count}
 use Rattle.vb_space.proofs.Counts.{length-le-counts}
@@ -16,7 +18,7 @@ use Rattle.vb_inode.specs.Nodes.{is_free}
 use Rattle.vb_inode.specs.Reading.{IsNodeOf}
 use Rattle.vb_index.specs.declared.held.Held.{Held}
 use Rattle.vb_index.specs.Indexes.{IndexState}
-use Rattle.vb_index.specs.Nodes.{held_at, pages_in, pages_of_slot}
+use Rattle.vb_index.specs.Nodes.{held_at, nodes_of_slot, pages_in, pages_of_slot, root_held}
 use Rattle.vb_nodes.specs.Paths.{free_node, AreBySlot}
 use Rattle.vb_nodes.specs.Faults.{table_fault, IsNodeTree}
 use Rattle.vb_nodes.specs.Holdings.{pages_of_nodes}
@@ -27,11 +29,11 @@ use Rattle.vb_plan.specs.Plans.{Basis, all_held, held_next, node_at, node_in, ta
 use Rattle.vb_plan.specs.Seen.{basis_of}
 use Rattle.vb_plan.proofs.Bare.{bare, same_fault}
 use Rattle.vb_plan.proofs.Listed.{in_own_slot, same_but_maps, slots-kept}
-use Rattle.vb_plan.proofs.Nexts.{all_held_are, all_pages_few, mapped_as_due}
+use Rattle.vb_plan.proofs.Nexts.{all_held_are, all_pages_few, all_tail, mapped_as_due}
 use Rattle.vb_plan.proofs.Placing.{length-refs_from}
 use Rattle.vb_plan.proofs.Sealed.{maps_are_refs, node_next_given}
 use Rattle.vb_plan.proofs.Slots.{length-by_slot}
-use Rattle.vb_plan.proofs.Weighed.{all-weigh, read-weighs, AreInOwn}
+use Rattle.vb_plan.proofs.Weighed.{all-weigh, read-weighs, some-weigh, AreInOwn}
 
 -- a list that can follow can be planned, where there are twice as many places as the limits allow
 pub follow_planned : (index : IndexState) (space : DataPlaces) (next : List NextNode) → CanFollow index next → committed_count space ≤ index.limits.pages → next_count space ≡ 0 → index.limits.pages + index.limits.pages ≤ length space.users → CanPlan (basis_of index space) next
@@ -148,3 +150,30 @@ maps_next basis next nodes = all_held_are (IsNextNode (length basis.nodes)) (λ 
 
 pub map_refs_next : (basis : Basis) (next : List NextNode) → All (IsNextNode (length basis.nodes)) next → CanSeal basis next → All (λ h. AreRefs h.node.maps) (all_held basis 0 next)
 map_refs_next basis next nodes seal = all_held_are (IsNextNode (length basis.nodes)) (λ (h : Held). AreRefs h.node.maps) basis (λ taken x is. maps_are_refs basis taken x seal.maps seal.free) 0 next nodes
+
+-- ---- how many there are
+
+slot_used : (slots slot : ℕ) (h : Held) → slot < slots → held_at (replicate slots (Some h)) slot ≡ Some h
+slot_used zero slot h within = absurd (omega arith)
+slot_used (suc slots) zero h within = refl
+slot_used (suc slots) (suc slot) h within = slot_used slots slot h (omega arith)
+
+-- a slot of a store in which each is used counts one for each node
+counts_one : (slots : ℕ) (h : Held) (next : List NextNode) → All (λ x. x.node.slot < slots) next → sum_by (λ x. nodes_of_slot (held_at (replicate slots (Some h)) x.node.slot)) next ≡ length next
+counts_one slots h [] below = refl
+counts_one slots h (x ∷ next) below =
+    omega (
+      arith,
+      sum_by-cons (λ (x : NextNode). nodes_of_slot (held_at (replicate slots (Some h)) x.node.slot)) x next,
+      ap nodes_of_slot (slot_used slots x.node.slot h (below 0 x (omega arith))),
+      counts_one slots h next (all_tail (λ (x : NextNode). x.node.slot < slots) x next below),
+    )
+
+-- a tree has at most as many nodes as there are slots
+pub nodes_few : (slots : ℕ) (next : List NextNode) → IsNextTree slots next → length next ≤ slots
+nodes_few slots next tree =
+    let full = replicate slots (Some root_held) in
+    let below : All (λ x. x.node.slot < slots) next = λ k d within. (tree.nodes k d within).slot in
+    let many : length full ≡ slots = length-replicate slots (Some root_held) in
+    let weighed = some-weigh (λ (x : NextNode). x.node.slot) nodes_of_slot refl full next tree.own_slot (λ k d within. (let b = below k d within in omega (arith, b, many))) in
+    omega (arith, weighed, counts_one slots root_held next below, sum_by-replicate nodes_of_slot slots (Some root_held))

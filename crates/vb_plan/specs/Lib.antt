@@ -7,4 +7,5 @@ pub mod Shown
 pub mod Laws
 pub mod Following
 pub mod Places
+pub mod Standing
 pub mod Worked

@@ -14,6 +14,7 @@ ghost use Rattle.vb_tree.specs.Trees.{data_pages_of, map_pages_of};
 ghost use Rattle.vb_index.specs.declared.held.Held.{Held};
 ghost use Rattle.vb_index.specs.Nodes.{held_at, pages_in};
 ghost use Rattle.vb_plan.specs.Places.{places_in};
+ghost use Rattle.vb_plan.specs.Standing.{StandsNext};
 ghost use Rattle.vb_plan.specs.Conditions.{CanPlan, CanSeal};
 ghost use Rattle.vb_nodes.specs.Faults.{IsNodeTree};
 ghost use Rattle.vb_nodes.specs.Holdings.{pages_of_nodes};
@@ -96,6 +97,7 @@ pub fn a_list_that_can_follow_can_be_planned()
         → index.limits.pages + index.limits.pages ≤ length space.users → CanPlan (basis_of index space) next }
     ensures parents { (slots : ℕ) (next : List NextNode) → IsNextTree slots next
         → All (λ x. x.node.parent < slots) next }
+    ensures few { (slots : ℕ) (next : List NextNode) → IsNextTree slots next → length next ≤ slots }
 {}
 
 /// What the slots hold after the commit of a tree are the nodes of a tree too, which a mount takes, with as many pages.
@@ -133,4 +135,13 @@ pub fn next_files_have_their_pages()
         → held_at (slots_next basis next) slot ≡ Some held → length held.node.maps ≡ map_pages_of held.node.length }
     ensures pages { (basis : Basis) (next : List NextNode) → CanPlan basis next
         → pages_in (slots_next basis next) ≡ pages_of_next next }
+{}
+
+/// After a commit each node of the list stands in its slot, with references of its pages and map pages that are kept or
+/// planned; and nothing else stands in a slot. It does nothing.
+pub fn next_slots_have_the_given_nodes()
+    ensures all { (basis : Basis) (next : List NextNode) (x : NextNode) → CanPlan basis next → Contains next x
+        → (held : Held) × StandsNext basis next x held }
+    ensures only { (basis : Basis) (next : List NextNode) (slot : ℕ) (held : Held) → CanPlan basis next
+        → held_at (slots_next basis next) slot ≡ Some held → (x : NextNode) × StandsNext basis next x held }
 {}
