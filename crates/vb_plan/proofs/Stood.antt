@@ -2,9 +2,11 @@
 use Rattle.std.proofs.Common.{◌≡◌, ℕ, zero, suc, ◌+◌, ◌<◌, true, List, [], ◌∷◌, length, get_or, map, Some, refl, sym, ap, ◌∙◌, arith, subst}
 use Rattle.std.specs.Prelude.{Contains}
 use Rattle.std.specs.List.{find, range_with_len, slice_get}
+use Rattle.std.proofs.lemmas.Bool.{eqb-true}
 use Rattle.std.proofs.lemmas.Bool.Decides.{Decides-eqb}
 use Rattle.std.proofs.lemmas.List.Elements.{All-contains, Contains-append_left, Contains-append_right}
 use Rattle.vb_block.specs.declared.digest.Ref.{Ref}
+use Rattle.vb_inode.specs.declared.node.Node.{Node}
 use Rattle.vb_inode.specs.declared.next_view.NextNode.{NextNode}
 use Rattle.vb_inode.specs.declared.next_view.PageSource.{PageSource}
 use Rattle.vb_inode.specs.declared.next_view.PageSource.TheVariants.{Kept, Fresh}
@@ -19,7 +21,7 @@ use Rattle.vb_plan.specs.Maps.{committed_refs, group_count, map_source, map_sour
 use Rattle.vb_plan.specs.Plans.{Basis, all_held, all_pages, data_page, data_refs, held_next, map_image, maps_due, pages_next, taken_by, taken_by_data}
 use Rattle.vb_plan.specs.Sources.{pages_written, refs_from}
 use Rattle.vb_plan.specs.Standing.{HasReference, StandsNext}
-use Rattle.vb_plan.proofs.Listed.{by_slot-found, found-in, has_slot, only-found, same-some}
+use Rattle.vb_plan.proofs.Listed.{by_slot-found, found-in, found-passes, has_slot, only-found, same-some}
 use Rattle.vb_plan.proofs.NextTrees.{own_next}
 use Rattle.vb_plan.proofs.Placing.{length-refs_from}
 use Rattle.vb_plan.proofs.MapSources.{length-map_sources}
@@ -154,10 +156,12 @@ node-stands basis next x can has =
     (one.0, one-stands basis next x one.0 can one.1)
 
 -- and what stands in a slot is one of them
-pub slot-stands : (basis : Basis) (next : List NextNode) (slot : ℕ) (held : Held) → CanPlan basis next → held_at (slots_next basis next) slot ≡ Some held → (x : NextNode) × StandsNext basis next x held
+pub slot-stands : (basis : Basis) (next : List NextNode) (slot : ℕ) (held : Held) → CanPlan basis next → held_at (slots_next basis next) slot ≡ Some held → (x : NextNode) × (x.node.slot ≡ slot) × StandsNext basis next x held
 slot-stands basis next slot held can there =
     let all = all_held basis 0 next in
     let within : slot < length basis.nodes = omega (arith, held_in_table (slots_next basis next) slot held there, length-by_slot (length basis.nodes) all) in
     let found : find (has_slot slot) all ≡ Some held = sym (by_slot-found (length basis.nodes) all slot within (own_next basis next can.own_slot slot)) ∙ there in
     let one = held-one basis 0 next held (found-in (has_slot slot) all held found) in
-    (one.0, one-stands basis next one.0 held can one.1)
+    let stands = one-stands basis next one.0 held can one.1 in
+    let own : one.0.node.slot ≡ slot = ap (λ (n : Node). n.slot) stands.node ∙ eqb-true held.node.slot slot (found-passes (has_slot slot) all held found) in
+    (one.0, own, stands)

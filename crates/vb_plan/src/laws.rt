@@ -143,5 +143,6 @@ pub fn next_slots_have_the_given_nodes()
     ensures all { (basis : Basis) (next : List NextNode) (x : NextNode) → CanPlan basis next → Contains next x
         → (held : Held) × StandsNext basis next x held }
     ensures only { (basis : Basis) (next : List NextNode) (slot : ℕ) (held : Held) → CanPlan basis next
-        → held_at (slots_next basis next) slot ≡ Some held → (x : NextNode) × StandsNext basis next x held }
+        → held_at (slots_next basis next) slot ≡ Some held
+        → (x : NextNode) × (x.node.slot ≡ slot) × StandsNext basis next x held }
 {}
