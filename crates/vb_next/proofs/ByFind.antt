@@ -61,10 +61,10 @@ map-in f (y ∷ xs) x (suc k, within, is) =
 -- ---- one node for each slot
 
 -- a node of this slot is in the next view of an order
-record IsListed (order : List FrozenEntry) (pages : List (PageKey × KeptPage)) (slot : ℕ) : Type 0 where
-  x : NextNode
-  there : Contains (next_of order pages) x
-  own : x.node.slot ≡ slot
+pub record IsListed (order : List FrozenEntry) (pages : List (PageKey × KeptPage)) (slot : ℕ) : Type 0 where
+  pub x : NextNode
+  pub there : Contains (next_of order pages) x
+  pub own : x.node.slot ≡ slot
 
 no_parts : (path : List (List ℕ)) → is_root path ≡ true → path ≡ []
 no_parts [] e = refl
@@ -92,7 +92,7 @@ entry-listed nodes pages tree path slot shape (Some f) e seen at =
     }
 
 -- each slot that holds something is one of theirs
-slot-listed : (nodes : List (Option Held)) (pages : List (PageKey × KeptPage)) (tree : List TreeEntry) (slot : ℕ) (held : Held) → IsRooted nodes → HasShapeOf nodes tree → held_at nodes slot ≡ Some held → IsListed (order_of nodes tree) pages slot
+pub slot-listed : (nodes : List (Option Held)) (pages : List (PageKey × KeptPage)) (tree : List TreeEntry) (slot : ℕ) (held : Held) → IsRooted nodes → HasShapeOf nodes tree → held_at nodes slot ≡ Some held → IsListed (order_of nodes tree) pages slot
 slot-listed nodes pages tree slot held rooted shape there =
     let path = path_to nodes slot in
     let at : slot_at nodes path ≡ Some slot = rooted.leads slot held there in
