@@ -22,13 +22,13 @@ use Rattle.vb_journal.proofs.Overlays.{image_over-named, image_over-unnamed, nam
 use Rattle.vb_journal.proofs.TriedCells.{ReadsUnsealed-disk, Trying-from_Tried, fixed_or_hurt}
 
 -- a crash in the midst of a commit
-record Crash (head : Head) (epoch : ℕ) (images : List (List ℕ)) (homes : ℕ → List ℕ) (d new : DiskState) : Type 0 where
-  can : CanFinish head epoch images
-  id : length head.id ≡ 16
-  size : d.size ≡ head.blocks
-  disk : IsDiskState d
-  crash : MayCrashTo d new
-  others : (slot : ℕ) → slot < head.nodes → IsUnnamed images slot → Has (Fixed (homes slot)) (d.cells (2 + slot))
+pub record Crash (head : Head) (epoch : ℕ) (images : List (List ℕ)) (homes : ℕ → List ℕ) (d new : DiskState) : Type 0 where
+  pub can : CanFinish head epoch images
+  pub id : length head.id ≡ 16
+  pub size : d.size ≡ head.blocks
+  pub disk : IsDiskState d
+  pub crash : MayCrashTo d new
+  pub others : (slot : ℕ) → slot < head.nodes → IsUnnamed images slot → Has (Fixed (homes slot)) (d.cells (2 + slot))
 
 -- a place that stands reads as its page, or it was hurt
 reads_or_hurt : (page : List ℕ) (d new : DiskState) (place : ℕ) → IsDiskState d → MayCrashTo d new → Has (Fixed page) (d.cells place) → ReadsOrHurt d new page place
@@ -75,13 +75,17 @@ closed_counts h d new pages large counts closed fits each =
       | inr hurt ↦ inr (hurt ∙ ap (λ (p : List ℕ). let o : Option (List ℕ) = Some p in o) (sym bare))
     ])
 
--- the opened head counts, and its journal was read
-journal_counts : (head : Head) (epoch : ℕ) (images : List (List ℕ)) (homes : ℕ → List ℕ) (d new : DiskState) → Crash head epoch images homes d new → Counts new (opened_head head epoch images) → pages_from (λ q. read_at new q) (2 + head.nodes) (length images) ≡ images → images_refusal head.nodes (2 + head.nodes) [] (pages_from (λ q. read_at new q) (2 + head.nodes) (length images)) ≡ None → Recovers d new (closed_head head epoch) (new_images images homes)
-journal_counts head epoch images homes d new c counts is accepts =
+-- two disks have the same homes hurt, but for those that an image is for
+abbrev pub AreHurtAlike : Head → List (List ℕ) → DiskState → DiskState → Type 0
+AreHurtAlike head images a b = (slot : ℕ) → slot < head.nodes → IsUnnamed images slot → (a.cells (2 + slot)).hurt ≡ (b.cells (2 + slot)).hurt
+
+-- the opened head counts, and its journal was read: homes that an image is for aren't missed
+journal_counts : (head : Head) (epoch : ℕ) (images : List (List ℕ)) (homes : ℕ → List ℕ) (seen d new : DiskState) → Crash head epoch images homes d new → AreHurtAlike head images seen d → Counts new (opened_head head epoch images) → pages_from (λ q. read_at new q) (2 + head.nodes) (length images) ≡ images → images_refusal head.nodes (2 + head.nodes) [] (pages_from (λ q. read_at new q) (2 + head.nodes) (length images)) ≡ None → Recovers seen new (closed_head head epoch) (new_images images homes)
+journal_counts head epoch images homes seen d new c alike counts is accepts =
     let reads : ℕ → List ℕ = λ q. read_at new q in
     let twice : head.sequence + 1 + 1 ≡ head.sequence + 2 = omega arith in
     let are = c.can.images_are in
-    Recovers-counting d new (opened_head head epoch images) (closed_head head epoch) (new_images images homes) counts accepts
+    Recovers-counting seen new (opened_head head epoch images) (closed_head head epoch) (new_images images homes) counts accepts
     (ap (λ (n : ℕ). let h : Head = record head { sequence = n; epoch = epoch; state = Closed } in h) twice)
     refl
     (λ slot within.
@@ -92,13 +96,13 @@ journal_counts head epoch images homes d new c counts is accepts =
           let bare = over ∙ image_over-unnamed images slot (reads (2 + slot)) unnamed in
           elim (home_is (homes slot) d new slot c.disk c.crash (c.others slot within unnamed)) [
             | inl due ↦ inl (bare ∙ due ∙ sym (image_over-unnamed images slot (homes slot) unnamed))
-            | inr hurt ↦ inr (hurt ∙ ap (λ (p : List ℕ). let o : Option (List ℕ) = Some p in o) (sym bare))
+            | inr hurt ↦ inr (alike slot within unnamed ∙ hurt ∙ ap (λ (p : List ℕ). let o : Option (List ℕ) = Some p in o) (sym bare))
           ]
     ])
 
 -- the opened head counts behind a whole journal
-opened_counts : (head : Head) (epoch : ℕ) (images : List (List ℕ)) (homes : ℕ → List ℕ) (d new : DiskState) → Crash head epoch images homes d new → counting new ≡ Some (opened_head head epoch images) → ((i : ℕ) → i < length images → Has (Fixed (image_at images i)) (d.cells (2 + head.nodes + i))) → Recovers d new (closed_head head epoch) (new_images images homes) ⊎ IsRefused head.nodes (length images) d new
-opened_counts head epoch images homes d new c is journal =
+pub opened_counts : (head : Head) (epoch : ℕ) (images : List (List ℕ)) (homes : ℕ → List ℕ) (seen d new : DiskState) → Crash head epoch images homes d new → AreHurtAlike head images seen d → counting new ≡ Some (opened_head head epoch images) → ((i : ℕ) → i < length images → Has (Fixed (image_at images i)) (d.cells (2 + head.nodes + i))) → Recovers seen new (closed_head head epoch) (new_images images homes) ⊎ IsRefused head.nodes (length images) d new
+opened_counts head epoch images homes seen d new c alike is journal =
     let counts : Counts new (opened_head head epoch images) = record {
       large = large head epoch images homes d new c;
       is = is;
@@ -106,7 +110,7 @@ opened_counts head epoch images homes d new c is journal =
       made = refl;
     } in
     elim (journal_read head.nodes (2 + head.nodes) d new images c.can.images_are (λ i within. reads_or_hurt (image_at images i) d new (2 + head.nodes + i) c.disk c.crash (journal i within))) [
-      | inl read ↦ inl (journal_counts head epoch images homes d new c counts read.0 read.1)
+      | inl read ↦ inl (journal_counts head epoch images homes seen d new c alike counts read.0 read.1)
       | inr hurt ↦ inr (IsRefused-journal head.nodes d new (opened_head head epoch images) counts refl (length images) refl hurt)
     ]
 
@@ -120,7 +124,7 @@ before_counts head epoch images homes d new c closed is home =
     ])
 
 -- the closed head counts, and the images are at their homes
-after_counts : (head : Head) (epoch : ℕ) (images : List (List ℕ)) (homes : ℕ → List ℕ) (d new : DiskState) → Crash head epoch images homes d new → counting new ≡ Some (closed_head head epoch) → ((i : ℕ) → i < length images → Has (Fixed (image_at images i)) (d.cells (2 + slot_of (image_at images i)))) → Recovers d new (closed_head head epoch) (new_images images homes)
+pub after_counts : (head : Head) (epoch : ℕ) (images : List (List ℕ)) (homes : ℕ → List ℕ) (d new : DiskState) → Crash head epoch images homes d new → counting new ≡ Some (closed_head head epoch) → ((i : ℕ) → i < length images → Has (Fixed (image_at images i)) (d.cells (2 + slot_of (image_at images i)))) → Recovers d new (closed_head head epoch) (new_images images homes)
 after_counts head epoch images homes d new c is home =
     let are = c.can.images_are in
     closed_counts (closed_head head epoch) d new (new_images images homes) (large head epoch images homes d new c) is refl (fits_head head epoch images homes d new c)
@@ -142,12 +146,12 @@ one_counts a b Second d new is_a is_b disk crash first second = OneCounts-second
 one_counts a b SecondSync d new is_a is_b disk crash first second = OneCounts-second a b d new (StandsOrHurt-Fixed b d new 0 is_b disk crash first) (MayReadHead-Trying a b d new 1 is_a is_b disk crash (Trying-from_Tried (head_page a) (head_page b) (d.cells 1) second))
 
 -- the head counts that stands at both places, or both were hurt
-same_counts : (h : Head) (d new : DiskState) → IsHead h → IsDiskState d → MayCrashTo d new → Has (Fixed (head_page h)) (d.cells 0) → Has (Fixed (head_page h)) (d.cells 1) → (counting new ≡ Some h) ⊎ AreGone d new
+pub same_counts : (h : Head) (d new : DiskState) → IsHead h → IsDiskState d → MayCrashTo d new → Has (Fixed (head_page h)) (d.cells 0) → Has (Fixed (head_page h)) (d.cells 1) → (counting new ≡ Some h) ⊎ AreGone d new
 same_counts h d new is disk crash first second = OneCounts-both h d new (StandsOrHurt-Fixed h d new 0 is disk crash first) (StandsOrHurt-Fixed h d new 1 is disk crash second)
 
 -- ---- each stage
 
-crash_at : (head : Head) (epoch : ℕ) (images : List (List ℕ)) (homes journal : ℕ → List ℕ) (stage : Stage) (d new : DiskState) → CanFinish head epoch images → IsDiskState d → IsCommitting head epoch images homes journal stage d → MayCrashTo d new → Crash head epoch images homes d new
+pub crash_at : (head : Head) (epoch : ℕ) (images : List (List ℕ)) (homes journal : ℕ → List ℕ) (stage : Stage) (d new : DiskState) → CanFinish head epoch images → IsDiskState d → IsCommitting head epoch images homes journal stage d → MayCrashTo d new → Crash head epoch images homes d new
 crash_at head epoch images homes journal stage d new can disk is crash = record { can = can; id = is.id; size = is.size; disk = disk; crash = crash; others = is.others }
 
 -- while the heads are opened
@@ -159,7 +163,7 @@ while_opening head epoch images homes journal turn d new can c is =
     elim (one_counts head (opened_head head epoch images) turn d new before opened c.disk c.crash is.first is.second) [
       | inl old ↦ inl (inl (before_counts head epoch images homes d new c early.closed old is.at_home))
       | inr other ↦ elim other [
-        | inl fresh ↦ elim (opened_counts head epoch images homes d new c fresh is.in_journal) [ inl recovers ↦ inl (inr recovers) | inr refused ↦ inr refused ]
+        | inl fresh ↦ elim (opened_counts head epoch images homes d d new c (λ slot within unnamed. refl) fresh is.in_journal) [ inl recovers ↦ inl (inr recovers) | inr refused ↦ inr refused ]
         | inr gone ↦ inr (IsRefused-gone head.nodes (length images) d new (large head epoch images homes d new c) gone)
       ]
     ]
@@ -170,7 +174,7 @@ while_closing head epoch images homes journal turn d new c is =
     let opened : IsHead (opened_head head epoch images) = record { range = c.can.opened; id_length = c.id } in
     let closed : IsHead (closed_head head epoch) = record { range = c.can.closed; id_length = c.id } in
     elim (one_counts (opened_head head epoch images) (closed_head head epoch) turn d new opened closed c.disk c.crash is.first is.second) [
-      | inl old ↦ opened_counts head epoch images homes d new c old is.in_journal
+      | inl old ↦ opened_counts head epoch images homes d d new c (λ slot within unnamed. refl) old is.in_journal
       | inr other ↦ elim other [
         | inl fresh ↦ inl (after_counts head epoch images homes d new c fresh is.at_home)
         | inr gone ↦ inr (IsRefused-gone head.nodes (length images) d new (large head epoch images homes d new c) gone)
@@ -193,7 +197,7 @@ EachCrashRecovers-stage head epoch images homes journal (Homes next) d can disk 
     let c = crash_at head epoch images homes journal (Homes next) d new can.finish disk is crash in
     let opened : IsHead (opened_head head epoch images) = record { range = c.can.opened; id_length = is.id } in
     elim (same_counts (opened_head head epoch images) d new opened disk crash is.first is.second) [
-      | inl counts ↦ opened_counts head epoch images homes d new c counts is.in_journal
+      | inl counts ↦ opened_counts head epoch images homes d d new c (λ slot within unnamed. refl) counts is.in_journal
       | inr gone ↦ inr (IsRefused-gone head.nodes (length images) d new (large head epoch images homes d new c) gone)
     ]
 EachCrashRecovers-stage head epoch images homes journal (Closing turn) d can disk is new crash =

@@ -227,3 +227,13 @@ greater-second old new a b rises first can = elim can [
     | inr none ↦ ap (λ (o : Option Head). greater o b) first ∙ ap (greater (Some new)) none
   ]
 ]
+
+-- once the first copy was changed, the new head counts, or that copy was hurt
+pub OneCounts-changed : (a b : Head) (old new : DiskState) → a.sequence < b.sequence → StandsOrHurt b (old.cells 0) (new.cells 0) → MayReadHead a b (new.cells 1) → (counting new ≡ Some b) ⊎ StaysHurt (old.cells 0) (new.cells 0)
+OneCounts-changed a b old new rises (inr hurt) may = inr hurt
+OneCounts-changed a b old new rises (inl first) may =
+    let can : CanBe a b (good_of (head_read (read_at new 1))) = elim may [
+      | inl is ↦ inl is
+      | inr other ↦ elim other [ inl is ↦ inr (inl is) | inr gone ↦ inr (inr (IsGone-none (new.cells 1) gone)) ]
+    ] in
+    inl (greater-second a b (good_of (head_read (read_at new 0))) (good_of (head_read (read_at new 1))) rises first can)

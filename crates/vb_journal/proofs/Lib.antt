@@ -36,3 +36,4 @@ pub mod StepsOfCommits
 pub mod StepsOfRecoveries
 pub mod TriedCells
 pub mod Unharmed
+pub mod UnharmedCrashes

@@ -17,7 +17,8 @@ use Rattle.vb_journal.specs.Progress.{EachCrashRecovers, EachCrashRecoversWholly
 use Rattle.vb_journal.proofs.AfterCrashes.{EachCrashRecovers-stage}
 use Rattle.vb_journal.proofs.FirstCalls.{gone}
 use Rattle.vb_journal.proofs.Keeping.{keeps, keeps-homes, keeps-journal, retries-closing-first, retries-closing-second, retries-homes, retries-journal, retries-opening-first, retries-opening-second, writes-closing-first, writes-closing-second, writes-opening-first, writes-opening-second}
-use Rattle.vb_journal.proofs.Unharmed.{EachCrashRecoversWholly-before, EachCrashRecoversWholly-unharmed, IsUnharmed-due, IsUnharmed-tried}
+use Rattle.vb_journal.proofs.Unharmed.{EachCrashRecoversWholly-before, IsUnharmed-due, IsUnharmed-tried, whole_after, whole_tried}
+use Rattle.vb_journal.proofs.UnharmedCrashes.{EachCrashRecoversWholly-stage}
 
 -- the disk is known at the stage, and is the one from before or the one after the call
 abbrev pub Tries : Head → ℕ → List (List ℕ) → (ℕ → List ℕ) → (ℕ → List ℕ) → Stage → DiskCall → DiskState → Option DiskState → Type 0
@@ -100,10 +101,12 @@ goes_on-made head epoch images homes journal stage old new can old_is new_is goi
       known = then;
       moments = EachMoment-call (Known head epoch images homes journal stage next) d call (inl is) (inr then);
       crashes = EachMoment-call (Recovering head epoch images homes stage next) d call (inl here) (inr after);
+      whole_stays = whole_after d call;
       unharmed = IsUnharmed-due head epoch images stage d;
       wholly = λ unharmed. EachMoment-call (EachCrashRecoversWholly head epoch images homes stage) d call
-          (EachCrashRecoversWholly-unharmed head epoch images homes stage d unharmed here)
-          (EachCrashRecoversWholly-before head epoch images homes stage (after_call d call) (EachCrashRecoversWholly-unharmed head epoch images homes next (after_call d call) (IsUnharmed-due head epoch images stage d unharmed) after));
+          (EachCrashRecoversWholly-stage head epoch images homes journal stage d can (old_is d told) is unharmed)
+          (EachCrashRecoversWholly-before head epoch images homes stage (after_call d call)
+          (EachCrashRecoversWholly-stage head epoch images homes journal next (after_call d call) (CanGoOn-next head epoch images stage can) (new_is (after_call d call) (made d told)) then (IsUnharmed-due head epoch images stage d unharmed)));
     }
 
 pub goes_on-failed : (head : Head) (epoch : ℕ) (images : List (List ℕ)) (homes journal : ℕ → List ℕ) (stage : Stage) (old new : Option DiskState) → CanGoOn head epoch images stage → IsTold old → IsTold new → is_rested stage ≡ false → ((d : DiskState) → old ≡ Some d → MayFailTo (due_call head epoch images stage) d new) → GoesOn head epoch images homes journal stage stage old new
@@ -118,10 +121,11 @@ goes_on-failed head epoch images homes journal stage old new can old_is new_is g
       known = tried.2;
       moments = EachMoment-tried (Known head epoch images homes journal stage stage) d tried.0 call tried.3 (inl is) (inl tried.2);
       crashes = EachMoment-tried (Recovering head epoch images homes stage stage) d tried.0 call tried.3 (inl here) (inl after);
+      whole_stays = whole_tried d tried.0 call tried.3;
       unharmed = IsUnharmed-tried head images stage d tried.0 call tried.3;
       wholly = λ unharmed. EachMoment-tried (EachCrashRecoversWholly head epoch images homes stage) d tried.0 call tried.3
-          (EachCrashRecoversWholly-unharmed head epoch images homes stage d unharmed here)
-          (EachCrashRecoversWholly-unharmed head epoch images homes stage tried.0 (IsUnharmed-tried head images stage d tried.0 call tried.3 unharmed) after);
+          (EachCrashRecoversWholly-stage head epoch images homes journal stage d can (old_is d told) is unharmed)
+          (EachCrashRecoversWholly-stage head epoch images homes journal stage tried.0 can (new_is tried.0 tried.1) tried.2 (IsUnharmed-tried head images stage d tried.0 call tried.3 unharmed));
     }
 
 pub goes_on-none : (head : Head) (epoch : ℕ) (images : List (List ℕ)) (homes journal : ℕ → List ℕ) (stage : Stage) (old new : Option DiskState) → CanGoOn head epoch images stage → IsTold old → new ≡ old → GoesOn head epoch images homes journal stage stage old new
@@ -133,8 +137,9 @@ goes_on-none head epoch images homes journal stage old new can old_is same d tol
       known = is;
       moments = EachMoment-none (Known head epoch images homes journal stage stage) d (inl is);
       crashes = EachMoment-none (Recovering head epoch images homes stage stage) d (inl here);
+      whole_stays = λ place whole. whole;
       unharmed = λ unharmed. unharmed;
-      wholly = λ unharmed. EachMoment-none (EachCrashRecoversWholly head epoch images homes stage) d (EachCrashRecoversWholly-unharmed head epoch images homes stage d unharmed here);
+      wholly = λ unharmed. EachMoment-none (EachCrashRecoversWholly head epoch images homes stage) d (EachCrashRecoversWholly-stage head epoch images homes journal stage d can (old_is d told) is unharmed);
     }
 
 -- after an error the stage stands

@@ -1,5 +1,5 @@
 -- How far the places of a store have come while a commit goes on.
-use Rattle.std.specs.Prelude.{◌≡◌, ◌≢◌, ◌⊎◌, ℕ, suc, ◌+◌, ◌<◌, ◌≤◌, nat_lt, if◌then◌else◌, List, [], ◌∷◌, length, replicate, Option, Some, None}
+use Rattle.std.specs.Prelude.{◌≡◌, ◌≢◌, ◌⊎◌, ℕ, suc, ◌+◌, ◌<◌, ◌≤◌, Bool, true, false, nat_lt, if◌then◌else◌, List, [], ◌∷◌, length, replicate, Option, Some, None}
 use Rattle.vb_disk.specs.declared.cell.Cell.{Cell}
 use Rattle.vb_disk.specs.Cells.{candidates}
 use Rattle.vb_disk.specs.Crashes.{MayCrashTo}
@@ -126,13 +126,29 @@ counted_at count (Homes next) = count
 counted_at count (Closing turn) = count
 counted_at count Rested = count
 
--- how many were written by then
-abbrev pub written_at : ℕ → Stage → ℕ
-written_at count (Journal next) = next
-written_at count (Opening turn) = count
-written_at count (Homes next) = count
-written_at count (Closing turn) = count
-written_at count Rested = count
+-- whether the first copy of a head was synced, so that it counts whatever becomes of the second one
+abbrev pub is_second : Turn → Bool
+is_second First = false
+is_second FirstSync = false
+is_second Second = true
+is_second SecondSync = true
+
+-- how many images in the journal are needed at a stage: those that were written, until the first closed head was synced
+abbrev pub images_needed : ℕ → Stage → ℕ
+images_needed count (Journal next) = next
+images_needed count (Opening turn) = count
+images_needed count (Homes next) = count
+images_needed count (Closing turn) = if is_second turn then 0 else count
+images_needed count Rested = 0
+
+-- the homes of how many images are needed: of all of them, but once the first opened head was synced of those alone
+-- that were written home
+abbrev pub homes_needed : ℕ → Stage → ℕ
+homes_needed count (Journal next) = count
+homes_needed count (Opening turn) = if is_second turn then 0 else count
+homes_needed count (Homes next) = next
+homes_needed count (Closing turn) = count
+homes_needed count Rested = count
 
 -- this holds of the head and the images from before the commit or of the new ones, and from the second sync of the
 -- opened heads on of the new ones
@@ -160,20 +176,23 @@ EachCrashRecoversWholly head epoch images homes stage d =
 abbrev pub EachCrashStays : Head → (ℕ → List ℕ) → DiskState → Type 0
 EachCrashStays head homes d = (new : DiskState) → MayCrashTo d new → Recovers d new head homes ⊎ IsRefused head.nodes 0 d new
 
--- no head and no home is hurt, and no place of the journal that was written
+-- no head is hurt, no image in the journal or at home that is needed, and no other home
 pub record IsUnharmed (head : Head) (images : List (List ℕ)) (stage : Stage) (d : DiskState) : Type 0 where
-  pub heads_and_homes : (place : ℕ) → place < 2 + head.nodes → (d.cells place).hurt ≡ None
-  pub in_journal : (i : ℕ) → i < written_at (length images) stage → (d.cells (2 + head.nodes + i)).hurt ≡ None
+  pub heads : (place : ℕ) → place < 2 → (d.cells place).hurt ≡ None
+  pub in_journal : (i : ℕ) → i < images_needed (length images) stage → (d.cells (2 + head.nodes + i)).hurt ≡ None
+  pub at_home : (i : ℕ) → i < length images → i < homes_needed (length images) stage → (d.cells (2 + slot_of (image_at images i))).hurt ≡ None
+  pub others : (slot : ℕ) → slot < head.nodes → IsUnnamed images slot → (d.cells (2 + slot)).hurt ≡ None
 
 -- what a step leaves of a disk that is known at its stage: one that is known at the stage after it. Each moment
--- within it is known at the one stage or the other, and each crash at it recovers as at that one. An unharmed disk
--- stays so, and each crash within the step recovers wholly.
+-- within it is known at the one stage or the other, and each crash at it recovers as at that one. No place is hurt by
+-- it; an unharmed disk stays so, and each crash within the step recovers wholly.
 pub record GoesTo (head : Head) (epoch : ℕ) (images : List (List ℕ)) (homes journal : ℕ → List ℕ) (before after : Stage) (d : DiskState) (new : Option DiskState) : Type 0 where
   pub next : DiskState
   pub told : new ≡ Some next
   pub known : IsCommitting head epoch images homes journal after next
   pub moments : EachMoment (λ m. IsCommitting head epoch images homes journal before m ⊎ IsCommitting head epoch images homes journal after m) d next
   pub crashes : EachMoment (λ m. EachCrashRecovers head epoch images homes before m ⊎ EachCrashRecovers head epoch images homes after m) d next
+  pub whole_stays : (place : ℕ) → (d.cells place).hurt ≡ None → (next.cells place).hurt ≡ None
   pub unharmed : IsUnharmed head images before d → IsUnharmed head images after next
   pub wholly : IsUnharmed head images before d → EachMoment (EachCrashRecoversWholly head epoch images homes before) d next
 

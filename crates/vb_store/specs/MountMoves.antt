@@ -137,6 +137,7 @@ pub record AreLikeHomes (h k : Homes) : Type 0 where
   pub slots_are : k.slots.items ≡ h.slots.items
   pub nodes_are : k.nodes ≡ h.nodes
 
+-- the reading of homes stays, but for where it lies in memory
 abbrev pub IsHomesLike : Homes → MountStage → Type 0
 IsHomesLike h (ReadHome k) = AreLikeHomes h k
 IsHomesLike h (ReadMap m) = ⊥
