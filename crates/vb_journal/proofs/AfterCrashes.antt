@@ -31,21 +31,21 @@ pub record Crash (head : Head) (epoch : ℕ) (images : List (List ℕ)) (homes :
   pub others : (slot : ℕ) → slot < head.nodes → IsUnnamed images slot → Has (Fixed (homes slot)) (d.cells (2 + slot))
 
 -- a place that stands reads as its page, or it was hurt
-reads_or_hurt : (page : List ℕ) (d new : DiskState) (place : ℕ) → IsDiskState d → MayCrashTo d new → Has (Fixed page) (d.cells place) → ReadsOrHurt d new page place
+pub reads_or_hurt : (page : List ℕ) (d new : DiskState) (place : ℕ) → IsDiskState d → MayCrashTo d new → Has (Fixed page) (d.cells place) → ReadsOrHurt d new page place
 reads_or_hurt page d new place disk crash has = fixed_or_hurt page (d.cells place) (new.cells place) (ReadsUnsealed-disk d place disk) has (crash.each place)
 
 -- the image of a node is the page of its home, or what its home read as when it was hurt
 abbrev pub HomeIs : DiskState → DiskState → List ℕ → ℕ → Type 0
 HomeIs d new page slot = (read_at new (2 + slot) ≡ page) ⊎ ((d.cells (2 + slot)).hurt ≡ Some (read_at new (2 + slot)))
 
-home_is : (page : List ℕ) (d new : DiskState) (slot : ℕ) → IsDiskState d → MayCrashTo d new → Has (Fixed page) (d.cells (2 + slot)) → HomeIs d new page slot
+pub home_is : (page : List ℕ) (d new : DiskState) (slot : ℕ) → IsDiskState d → MayCrashTo d new → Has (Fixed page) (d.cells (2 + slot)) → HomeIs d new page slot
 home_is page d new slot disk crash has = elim (reads_or_hurt page d new (2 + slot) disk crash has) [
   | inl is ↦ inl is
   | inr hurt ↦ inr (hurt.was ∙ ap (λ (p : List ℕ). let o : Option (List ℕ) = Some p in o) (sym hurt.ends.reads))
 ]
 
 -- the disk is large enough for a store, and has the size of the head
-large : (head : Head) (epoch : ℕ) (images : List (List ℕ)) (homes : ℕ → List ℕ) (d new : DiskState) → Crash head epoch images homes d new → 38 ≤ new.size
+pub large : (head : Head) (epoch : ℕ) (images : List (List ℕ)) (homes : ℕ → List ℕ) (d new : DiskState) → Crash head epoch images homes d new → 38 ≤ new.size
 large head epoch images homes d new c =
     let space = c.can.closed.space in
     let low = c.can.closed.nodes_low in
@@ -53,7 +53,7 @@ large head epoch images homes d new c =
     let stays = c.crash.size in
     omega arith
 
-fits_head : (head : Head) (epoch : ℕ) (images : List (List ℕ)) (homes : ℕ → List ℕ) (d new : DiskState) → Crash head epoch images homes d new → head.blocks ≡ new.size
+pub fits_head : (head : Head) (epoch : ℕ) (images : List (List ℕ)) (homes : ℕ → List ℕ) (d new : DiskState) → Crash head epoch images homes d new → head.blocks ≡ new.size
 fits_head head epoch images homes d new c = sym c.size ∙ sym c.crash.size
 
 -- ---- what is recovered where this head counts
@@ -80,7 +80,7 @@ abbrev pub AreHurtAlike : Head → List (List ℕ) → DiskState → DiskState �
 AreHurtAlike head images a b = (slot : ℕ) → slot < head.nodes → IsUnnamed images slot → (a.cells (2 + slot)).hurt ≡ (b.cells (2 + slot)).hurt
 
 -- the opened head counts, and its journal was read: homes that an image is for aren't missed
-journal_counts : (head : Head) (epoch : ℕ) (images : List (List ℕ)) (homes : ℕ → List ℕ) (seen d new : DiskState) → Crash head epoch images homes d new → AreHurtAlike head images seen d → Counts new (opened_head head epoch images) → pages_from (λ q. read_at new q) (2 + head.nodes) (length images) ≡ images → images_refusal head.nodes (2 + head.nodes) [] (pages_from (λ q. read_at new q) (2 + head.nodes) (length images)) ≡ None → Recovers seen new (closed_head head epoch) (new_images images homes)
+pub journal_counts : (head : Head) (epoch : ℕ) (images : List (List ℕ)) (homes : ℕ → List ℕ) (seen d new : DiskState) → Crash head epoch images homes d new → AreHurtAlike head images seen d → Counts new (opened_head head epoch images) → pages_from (λ q. read_at new q) (2 + head.nodes) (length images) ≡ images → images_refusal head.nodes (2 + head.nodes) [] (pages_from (λ q. read_at new q) (2 + head.nodes) (length images)) ≡ None → Recovers seen new (closed_head head epoch) (new_images images homes)
 journal_counts head epoch images homes seen d new c alike counts is accepts =
     let reads : ℕ → List ℕ = λ q. read_at new q in
     let twice : head.sequence + 1 + 1 ≡ head.sequence + 2 = omega arith in
@@ -101,7 +101,7 @@ journal_counts head epoch images homes seen d new c alike counts is accepts =
     ])
 
 -- the opened head counts behind a whole journal
-pub opened_counts : (head : Head) (epoch : ℕ) (images : List (List ℕ)) (homes : ℕ → List ℕ) (seen d new : DiskState) → Crash head epoch images homes d new → AreHurtAlike head images seen d → counting new ≡ Some (opened_head head epoch images) → ((i : ℕ) → i < length images → Has (Fixed (image_at images i)) (d.cells (2 + head.nodes + i))) → Recovers seen new (closed_head head epoch) (new_images images homes) ⊎ IsRefused head.nodes (length images) d new
+opened_counts : (head : Head) (epoch : ℕ) (images : List (List ℕ)) (homes : ℕ → List ℕ) (seen d new : DiskState) → Crash head epoch images homes d new → AreHurtAlike head images seen d → counting new ≡ Some (opened_head head epoch images) → ((i : ℕ) → i < length images → Has (Fixed (image_at images i)) (d.cells (2 + head.nodes + i))) → Recovers seen new (closed_head head epoch) (new_images images homes) ⊎ IsRefused head.nodes (length images) d new
 opened_counts head epoch images homes seen d new c alike is journal =
     let counts : Counts new (opened_head head epoch images) = record {
       large = large head epoch images homes d new c;
@@ -115,7 +115,7 @@ opened_counts head epoch images homes seen d new c alike is journal =
     ]
 
 -- the head from before counts, and no home was written
-before_counts : (head : Head) (epoch : ℕ) (images : List (List ℕ)) (homes : ℕ → List ℕ) (d new : DiskState) → Crash head epoch images homes d new → head.state ≡ Closed → counting new ≡ Some head → ((i : ℕ) → i < length images → Has (Fixed (homes (slot_of (image_at images i)))) (d.cells (2 + slot_of (image_at images i)))) → Recovers d new head homes
+pub before_counts : (head : Head) (epoch : ℕ) (images : List (List ℕ)) (homes : ℕ → List ℕ) (d new : DiskState) → Crash head epoch images homes d new → head.state ≡ Closed → counting new ≡ Some head → ((i : ℕ) → i < length images → Has (Fixed (homes (slot_of (image_at images i)))) (d.cells (2 + slot_of (image_at images i)))) → Recovers d new head homes
 before_counts head epoch images homes d new c closed is home =
     closed_counts head d new homes (large head epoch images homes d new c) is closed (fits_head head epoch images homes d new c)
     (λ slot within. elim (named_or_not images slot) [

@@ -228,6 +228,12 @@ greater-second old new a b rises first can = elim can [
   ]
 ]
 
+-- while the first copy changes and the second stands, the one or the other counts
+pub OneCounts-standing : (a b : Head) (new : DiskState) → MayReadHead a b (new.cells 0) → good_of (head_read (read_at new 1)) ≡ Some a → (counting new ≡ Some a) ⊎ (counting new ≡ Some b)
+OneCounts-standing a b new (inl x) y = elim (greater_of (good_of (head_read (read_at new 0))) (good_of (head_read (read_at new 1))) a a x y) [ inl is ↦ inl is | inr is ↦ inl is ]
+OneCounts-standing a b new (inr (inl x)) y = elim (greater_of (good_of (head_read (read_at new 0))) (good_of (head_read (read_at new 1))) b a x y) [ inl is ↦ inr is | inr is ↦ inl is ]
+OneCounts-standing a b new (inr (inr gone)) y = inl (greater_right (good_of (head_read (read_at new 0))) (good_of (head_read (read_at new 1))) a (IsGone-none (new.cells 0) gone) y)
+
 -- once the first copy was changed, the new head counts, or that copy was hurt
 pub OneCounts-changed : (a b : Head) (old new : DiskState) → a.sequence < b.sequence → StandsOrHurt b (old.cells 0) (new.cells 0) → MayReadHead a b (new.cells 1) → (counting new ≡ Some b) ⊎ StaysHurt (old.cells 0) (new.cells 0)
 OneCounts-changed a b old new rises (inr hurt) may = inr hurt

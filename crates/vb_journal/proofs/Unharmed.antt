@@ -1,17 +1,20 @@
 -- An unharmed disk stays so while a commit goes on.
-use Rattle.std.proofs.Common.{◌≡◌, ℕ, ◌+◌, ◌<◌, ◌≤◌, Bool, true, false, cond, eqb, ltb, List, length, None, refl, sym, ap, subst, ◌⊎◌, inl, inr, arith}
+use Rattle.std.proofs.Common.{◌≡◌, ℕ, ◌+◌, ◌<◌, ◌≤◌, Bool, true, false, cond, eqb, ltb, List, [], ◌∷◌, length, get_or, None, refl, sym, ap, subst, ◌⊎◌, inl, inr, arith}
 use Rattle.std.proofs.lemmas.Bool.{cases_eq, cases_lt, lt-ltb, le-ltb}
+use Rattle.std.specs.List.{All}
+use Rattle.std.proofs.lemmas.List.Elements.{All-cons, All-nil}
 use Rattle.vb_disk.specs.declared.cell.Cell.{Cell}
 use Rattle.vb_disk.specs.Cells.{blank_cell, written_cell}
-use Rattle.vb_disk.specs.States.{DiskCall, DiskState, Resize, Sync, Write, after_call, written}
+use Rattle.vb_disk.specs.States.{DiskCall, DiskState, Resize, Sync, Write, after_call, synced, written}
 use Rattle.vb_head.specs.declared.head.Head.{Head}
+use Rattle.vb_head.specs.Heads.{head_page}
 use Rattle.vb_journal.specs.declared.commit_stage.Stage.{Stage}
 use Rattle.vb_journal.specs.declared.commit_stage.Stage.TheVariants.{Journal, Opening, Homes, Closing, Rested}
 use Rattle.vb_journal.specs.declared.commit_stage.Turn.TheVariants.{First, FirstSync, Second, SecondSync}
 use Rattle.vb_journal.specs.Images.{image_at, slot_of}
 use Rattle.vb_journal.specs.Outcomes.{RecoversWholly}
-use Rattle.vb_journal.specs.Plans.{due_call, next_stage}
-use Rattle.vb_journal.specs.Progress.{EachCrashRecoversWholly, IsUnharmed, OldOrNew, homes_needed, images_needed}
+use Rattle.vb_journal.specs.Plans.{closed_head, due_call, next_stage, opened_head}
+use Rattle.vb_journal.specs.Progress.{EachCrashRecoversWholly, IsUnharmed, IsWholeAt, OldOrNew, heads_needed, homes_needed, images_needed}
 use Rattle.vb_journal.proofs.TriedCells.{written-here}
 
 -- what holds of the old or the new images at the next stage holds so at this one
@@ -55,17 +58,28 @@ whole_after d (Write at page) place whole = if_written (eqb place at) (d.cells p
 whole_after d Sync place whole = whole
 whole_after d (Resize blocks) place whole = if_kept (ltb place blocks) (d.cells place) whole
 
--- at a stage at which no more places are needed
-pub IsUnharmed-call : (head : Head) (images : List (List ℕ)) (stage next : Stage) (d : DiskState) (call : DiskCall) → images_needed (length images) next ≤ images_needed (length images) stage → ((i : ℕ) → i < length images → i < homes_needed (length images) next → i < homes_needed (length images) stage) → IsUnharmed head images stage d → IsUnharmed head images next (after_call d call)
-IsUnharmed-call head images stage next d call less fewer u = record {
-  heads = λ place low. whole_after d call place (u.heads place low);
+-- the places of a list that were whole
+all_after : (d : DiskState) (call : DiskCall) (places : List ℕ) → All (IsWholeAt d) places → All (IsWholeAt (after_call d call)) places
+all_after d call places all k other within = whole_after d call (get_or places k other) (all k other within)
+
+-- at a stage at which no more images and homes are needed
+pub IsUnharmed-call : (head : Head) (images : List (List ℕ)) (stage next : Stage) (d : DiskState) (call : DiskCall) → images_needed (length images) next ≤ images_needed (length images) stage → ((i : ℕ) → i < length images → i < homes_needed (length images) next → i < homes_needed (length images) stage) → All (IsWholeAt (after_call d call)) (heads_needed next) → IsUnharmed head images stage d → IsUnharmed head images next (after_call d call)
+IsUnharmed-call head images stage next d call less fewer heads u = record {
+  heads = heads;
   in_journal = λ i within. whole_after d call (2 + head.nodes + i) (u.in_journal i (omega arith));
   at_home = λ i within needed. whole_after d call (2 + slot_of (image_at images i)) (u.at_home i within (fewer i within needed));
   others = λ slot within unnamed. whole_after d call (2 + slot) (u.others slot within unnamed);
 }
 
+-- a list of one place, and of both heads
+one_whole : (d : DiskState) (place : ℕ) → IsWholeAt d place → All (IsWholeAt d) (place ∷ [])
+one_whole d place whole = All-cons (IsWholeAt d) place [] whole (All-nil (IsWholeAt d))
+
+both_whole : (d : DiskState) → IsWholeAt d 0 → IsWholeAt d 1 → All (IsWholeAt d) (0 ∷ 1 ∷ [])
+both_whole d first second = All-cons (IsWholeAt d) 0 (1 ∷ []) first (one_whole d 1 second)
+
 -- a place is whole after a write to it
-whole_written : (d : DiskState) (place : ℕ) (page : List ℕ) → ((written d place page).cells place).hurt ≡ None
+whole_written : (d : DiskState) (place : ℕ) (page : List ℕ) → IsWholeAt (written d place page) place
 whole_written d place page = ap (λ (c : Cell). c.hurt) (written-here d place page)
 
 -- an image more went into the journal
@@ -73,7 +87,7 @@ one_more : (head : Head) (images : List (List ℕ)) (next : ℕ) (d : DiskState)
 one_more head images next d page u =
     let call = Write (2 + head.nodes + next) page in
     record {
-      heads = λ place low. whole_after d call place (u.heads place low);
+      heads = all_after d call (1 ∷ []) u.heads;
       in_journal = λ i within. elim (cases_eq i next) [
         | inl same ↦ subst (λ (n : ℕ). ((written d (2 + head.nodes + next) page).cells (2 + head.nodes + n)).hurt ≡ None) (sym same) (whole_written d (2 + head.nodes + next) page)
         | inr apart ↦ whole_after d call (2 + head.nodes + i) (u.in_journal i (omega arith))
@@ -88,7 +102,7 @@ one_home head images next d page u =
     let home = 2 + slot_of (image_at images next) in
     let call = Write home page in
     record {
-      heads = λ place low. whole_after d call place (u.heads place low);
+      heads = all_after d call (1 ∷ []) u.heads;
       in_journal = λ i within. whole_after d call (2 + head.nodes + i) (u.in_journal i within);
       at_home = λ i within needed. elim (cases_eq i next) [
         | inl same ↦ subst (λ (n : ℕ). ((written d home page).cells (2 + slot_of (image_at images n))).hurt ≡ None) (sym same) (whole_written d home page)
@@ -103,28 +117,44 @@ IsUnharmed-due head epoch images (Journal next) d u =
     let Q : Bool → Type 0 = λ b. IsUnharmed head images (cond b (Journal (next + 1)) (Opening First)) (after_call d (cond b (Write (2 + head.nodes + next) (image_at images next)) Sync)) in
     elim (cases_lt next (length images)) [
       | inl left ↦ subst Q (sym (lt-ltb next (length images) left)) (one_more head images next d (image_at images next) u)
-      | inr none ↦ subst Q (sym (le-ltb next (length images) none)) (IsUnharmed-call head images (Journal next) (Opening First) d Sync none (λ i within needed. needed) u)
+      | inr none ↦ subst Q (sym (le-ltb next (length images) none)) (IsUnharmed-call head images (Journal next) (Opening First) d Sync none (λ i within needed. needed) u.heads u)
     ]
-IsUnharmed-due head epoch images (Opening First) d u = IsUnharmed-call head images (Opening First) (Opening FirstSync) d (due_call head epoch images (Opening First)) (omega arith) (λ i within needed. needed) u
-IsUnharmed-due head epoch images (Opening FirstSync) d u = IsUnharmed-call head images (Opening FirstSync) (Opening Second) d (due_call head epoch images (Opening FirstSync)) (omega arith) (λ i within needed. within) u
-IsUnharmed-due head epoch images (Opening Second) d u = IsUnharmed-call head images (Opening Second) (Opening SecondSync) d (due_call head epoch images (Opening Second)) (omega arith) (λ i within needed. needed) u
-IsUnharmed-due head epoch images (Opening SecondSync) d u = IsUnharmed-call head images (Opening SecondSync) (Homes 0) d (due_call head epoch images (Opening SecondSync)) (omega arith) (λ i within needed. needed) u
+IsUnharmed-due head epoch images (Opening First) d u =
+    let page = head_page (opened_head head epoch images) in
+    IsUnharmed-call head images (Opening First) (Opening FirstSync) d (Write 0 page) (omega arith) (λ i within needed. needed)
+    (both_whole (written d 0 page) (whole_written d 0 page) (whole_after d (Write 0 page) 1 (u.heads 0 0 (omega arith)))) u
+IsUnharmed-due head epoch images (Opening FirstSync) d u =
+    IsUnharmed-call head images (Opening FirstSync) (Opening Second) d Sync (omega arith) (λ i within needed. within) (one_whole (synced d) 0 (u.heads 0 0 (omega arith))) u
+IsUnharmed-due head epoch images (Opening Second) d u =
+    let page = head_page (opened_head head epoch images) in
+    IsUnharmed-call head images (Opening Second) (Opening SecondSync) d (Write 1 page) (omega arith) (λ i within needed. needed)
+    (both_whole (written d 1 page) (whole_after d (Write 1 page) 0 (u.heads 0 0 (omega arith))) (whole_written d 1 page)) u
+IsUnharmed-due head epoch images (Opening SecondSync) d u =
+    IsUnharmed-call head images (Opening SecondSync) (Homes 0) d Sync (omega arith) (λ i within needed. needed) (one_whole (synced d) 1 (u.heads 1 0 (omega arith))) u
 IsUnharmed-due head epoch images (Homes next) d u =
     let Q : Bool → Type 0 = λ b. IsUnharmed head images (cond b (Homes (next + 1)) (Closing First)) (after_call d (cond b (Write (2 + slot_of (image_at images next)) (image_at images next)) Sync)) in
     elim (cases_lt next (length images)) [
       | inl left ↦ subst Q (sym (lt-ltb next (length images) left)) (one_home head images next d (image_at images next) u)
-      | inr none ↦ subst Q (sym (le-ltb next (length images) none)) (IsUnharmed-call head images (Homes next) (Closing First) d Sync (omega arith) (λ i within needed. omega arith) u)
+      | inr none ↦ subst Q (sym (le-ltb next (length images) none)) (IsUnharmed-call head images (Homes next) (Closing First) d Sync (omega arith) (λ i within needed. omega arith) u.heads u)
     ]
-IsUnharmed-due head epoch images (Closing First) d u = IsUnharmed-call head images (Closing First) (Closing FirstSync) d (due_call head epoch images (Closing First)) (omega arith) (λ i within needed. needed) u
-IsUnharmed-due head epoch images (Closing FirstSync) d u = IsUnharmed-call head images (Closing FirstSync) (Closing Second) d (due_call head epoch images (Closing FirstSync)) (omega arith) (λ i within needed. needed) u
-IsUnharmed-due head epoch images (Closing Second) d u = IsUnharmed-call head images (Closing Second) (Closing SecondSync) d (due_call head epoch images (Closing Second)) (omega arith) (λ i within needed. needed) u
-IsUnharmed-due head epoch images (Closing SecondSync) d u = IsUnharmed-call head images (Closing SecondSync) Rested d (due_call head epoch images (Closing SecondSync)) (omega arith) (λ i within needed. needed) u
-IsUnharmed-due head epoch images Rested d u = IsUnharmed-call head images Rested Rested d (due_call head epoch images Rested) (omega arith) (λ i within needed. needed) u
+IsUnharmed-due head epoch images (Closing First) d u =
+    let page = head_page (closed_head head epoch) in
+    IsUnharmed-call head images (Closing First) (Closing FirstSync) d (Write 0 page) (omega arith) (λ i within needed. needed)
+    (both_whole (written d 0 page) (whole_written d 0 page) (whole_after d (Write 0 page) 1 (u.heads 0 0 (omega arith)))) u
+IsUnharmed-due head epoch images (Closing FirstSync) d u =
+    IsUnharmed-call head images (Closing FirstSync) (Closing Second) d Sync (omega arith) (λ i within needed. needed) (one_whole (synced d) 0 (u.heads 0 0 (omega arith))) u
+IsUnharmed-due head epoch images (Closing Second) d u =
+    let page = head_page (closed_head head epoch) in
+    IsUnharmed-call head images (Closing Second) (Closing SecondSync) d (Write 1 page) (omega arith) (λ i within needed. needed)
+    (both_whole (written d 1 page) (whole_after d (Write 1 page) 0 (u.heads 0 0 (omega arith))) (whole_written d 1 page)) u
+IsUnharmed-due head epoch images (Closing SecondSync) d u =
+    IsUnharmed-call head images (Closing SecondSync) Rested d Sync (omega arith) (λ i within needed. needed) (one_whole (synced d) 1 (u.heads 1 0 (omega arith))) u
+IsUnharmed-due head epoch images Rested d u = IsUnharmed-call head images Rested Rested d Sync (omega arith) (λ i within needed. needed) u.heads u
 
 -- a call that was made or wasn't, at the same stage
 pub IsUnharmed-tried : (head : Head) (images : List (List ℕ)) (stage : Stage) (d new : DiskState) (call : DiskCall) → (new ≡ d) ⊎ (new ≡ after_call d call) → IsUnharmed head images stage d → IsUnharmed head images stage new
 IsUnharmed-tried head images stage d new call (inl same) u = subst (IsUnharmed head images stage) (sym same) u
-IsUnharmed-tried head images stage d new call (inr made) u = subst (IsUnharmed head images stage) (sym made) (IsUnharmed-call head images stage stage d call (omega arith) (λ i within needed. needed) u)
+IsUnharmed-tried head images stage d new call (inr made) u = subst (IsUnharmed head images stage) (sym made) (IsUnharmed-call head images stage stage d call (omega arith) (λ i within needed. needed) (all_after d call (heads_needed stage) u.heads) u)
 
 -- a whole place stays whole then
 pub whole_tried : (d new : DiskState) (call : DiskCall) → (new ≡ d) ⊎ (new ≡ after_call d call) → (place : ℕ) → (d.cells place).hurt ≡ None → (new.cells place).hurt ≡ None

@@ -1,5 +1,6 @@
 -- How far the places of a store have come while a commit goes on.
 use Rattle.std.specs.Prelude.{◌≡◌, ◌≢◌, ◌⊎◌, ℕ, suc, ◌+◌, ◌<◌, ◌≤◌, Bool, true, false, nat_lt, if◌then◌else◌, List, [], ◌∷◌, length, replicate, Option, Some, None}
+use Rattle.std.specs.List.{All}
 use Rattle.vb_disk.specs.declared.cell.Cell.{Cell}
 use Rattle.vb_disk.specs.Cells.{candidates}
 use Rattle.vb_disk.specs.Crashes.{MayCrashTo}
@@ -133,6 +134,22 @@ is_second FirstSync = false
 is_second Second = true
 is_second SecondSync = true
 
+-- the copies of the head that are needed in a turn: the second until the first was synced, the first from its write to
+-- that of the second, and both while the one was written and not yet synced
+abbrev pub heads_in : Turn → List ℕ
+heads_in First = 1 ∷ []
+heads_in FirstSync = 0 ∷ 1 ∷ []
+heads_in Second = 0 ∷ []
+heads_in SecondSync = 0 ∷ 1 ∷ []
+
+-- those at a stage: where both have the same head, the second, since the first is the next to be written
+abbrev pub heads_needed : Stage → List ℕ
+heads_needed (Journal next) = 1 ∷ []
+heads_needed (Opening turn) = heads_in turn
+heads_needed (Homes next) = 1 ∷ []
+heads_needed (Closing turn) = heads_in turn
+heads_needed Rested = 1 ∷ []
+
 -- how many images in the journal are needed at a stage: those that were written, until the first closed head was synced
 abbrev pub images_needed : ℕ → Stage → ℕ
 images_needed count (Journal next) = next
@@ -176,12 +193,17 @@ EachCrashRecoversWholly head epoch images homes stage d =
 abbrev pub EachCrashStays : Head → (ℕ → List ℕ) → DiskState → Type 0
 EachCrashStays head homes d = (new : DiskState) → MayCrashTo d new → Recovers d new head homes ⊎ IsRefused head.nodes 0 d new
 
--- no head is hurt, no image in the journal or at home that is needed, and no other home
+-- a place isn't hurt
+abbrev pub IsWholeAt : DiskState → ℕ → Type 0
+IsWholeAt d place = (d.cells place).hurt ≡ None
+
+-- each place that still counts at a stage is whole: the heads, the images in the journal and the homes that are needed,
+-- and the homes that no image is for
 pub record IsUnharmed (head : Head) (images : List (List ℕ)) (stage : Stage) (d : DiskState) : Type 0 where
-  pub heads : (place : ℕ) → place < 2 → (d.cells place).hurt ≡ None
-  pub in_journal : (i : ℕ) → i < images_needed (length images) stage → (d.cells (2 + head.nodes + i)).hurt ≡ None
-  pub at_home : (i : ℕ) → i < length images → i < homes_needed (length images) stage → (d.cells (2 + slot_of (image_at images i))).hurt ≡ None
-  pub others : (slot : ℕ) → slot < head.nodes → IsUnnamed images slot → (d.cells (2 + slot)).hurt ≡ None
+  pub heads : All (IsWholeAt d) (heads_needed stage)
+  pub in_journal : (i : ℕ) → i < images_needed (length images) stage → IsWholeAt d (2 + head.nodes + i)
+  pub at_home : (i : ℕ) → i < length images → i < homes_needed (length images) stage → IsWholeAt d (2 + slot_of (image_at images i))
+  pub others : (slot : ℕ) → slot < head.nodes → IsUnnamed images slot → IsWholeAt d (2 + slot)
 
 -- what a step leaves of a disk that is known at its stage: one that is known at the stage after it. Each moment
 -- within it is known at the one stage or the other, and each crash at it recovers as at that one. No place is hurt by
@@ -192,7 +214,7 @@ pub record GoesTo (head : Head) (epoch : ℕ) (images : List (List ℕ)) (homes 
   pub known : IsCommitting head epoch images homes journal after next
   pub moments : EachMoment (λ m. IsCommitting head epoch images homes journal before m ⊎ IsCommitting head epoch images homes journal after m) d next
   pub crashes : EachMoment (λ m. EachCrashRecovers head epoch images homes before m ⊎ EachCrashRecovers head epoch images homes after m) d next
-  pub whole_stays : (place : ℕ) → (d.cells place).hurt ≡ None → (next.cells place).hurt ≡ None
+  pub whole_stays : (place : ℕ) → IsWholeAt d place → IsWholeAt next place
   pub unharmed : IsUnharmed head images before d → IsUnharmed head images after next
   pub wholly : IsUnharmed head images before d → EachMoment (EachCrashRecoversWholly head epoch images homes before) d next
 

@@ -31,15 +31,16 @@ pub fn each_crash_at_rest_recovers()
         → IsAtRest head homes journal d → EachCrashStays head homes d }
 {}
 
-/// Where each place that still counts is whole, each crash recovers wholly: nothing is missed and nothing refused. From
-/// the sync of the first opened head on a home that an image is for doesn't count until it is written, and from the
-/// sync of the first closed head on no image in the journal does.
+/// Where each place that still counts is whole, each crash recovers wholly: nothing is missed and nothing refused. Of
+/// two copies of one head the first doesn't count, since it is the next to be written. From the sync of the first
+/// opened head on a home that an image is for doesn't count until it is written, and from the sync of the first closed
+/// head on no image in the journal does.
 pub fn an_unharmed_disk_recovers_wholly()
     ensures commit { (head : Head) (epoch : ℕ) (images : List (List ℕ)) (homes journal : ℕ → List ℕ) (stage : Stage) (d : DiskState)
         → CanGoOn head epoch images stage → IsDiskState d → IsCommitting head epoch images homes journal stage d
         → IsUnharmed head images stage d → EachCrashRecoversWholly head epoch images homes stage d }
-    ensures rest { (head : Head) (homes : ℕ → List ℕ) (d new : DiskState) → IsUnharmed head [] Rested d → EachCrashStays head homes d
-        → MayCrashTo d new → RecoversWholly new head homes }
+    ensures rest { (head : Head) (homes journal : ℕ → List ℕ) (d new : DiskState) → IsInRange head → head.state ≡ Closed → IsDiskState d
+        → IsAtRest head homes journal d → IsUnharmed head [] Rested d → MayCrashTo d new → RecoversWholly new head homes }
 {}
 
 /// A commit that rests leaves a store at rest, with the closed head and the new images, over which the next one may
