@@ -5,3 +5,4 @@ pub mod Checked
 pub mod Decoded
 pub mod Written
 pub mod PagesRead
+pub mod Spelled

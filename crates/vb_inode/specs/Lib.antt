@@ -4,3 +4,4 @@ pub mod Checks
 pub mod Views
 pub mod Reading
 pub mod Writing
+pub mod Spellings
