@@ -1,6 +1,7 @@
--- An unharmed disk stays so while a commit goes on.
-use Rattle.std.proofs.Common.{◌≡◌, ℕ, ◌+◌, ◌<◌, ◌≤◌, Bool, true, false, cond, eqb, ltb, List, [], ◌∷◌, length, get_or, None, refl, sym, ap, subst, ◌⊎◌, inl, inr, arith}
+-- What an unharmed disk recovers wholly, and that it stays unharmed while a commit goes on.
+use Rattle.std.proofs.Common.{◌≡◌, ℕ, ◌+◌, ◌<◌, ◌≤◌, Bool, true, false, cond, eqb, ltb, List, [], ◌∷◌, length, get_or, None, Result, Ok, refl, sym, ap, subst, ◌∙◌, ◌⊎◌, inl, inr, arith}
 use Rattle.std.proofs.lemmas.Bool.{cases_eq, cases_lt, lt-ltb, le-ltb}
+use Rattle.std.proofs.lemmas.List.{ext_get_or}
 use Rattle.std.specs.List.{All}
 use Rattle.std.proofs.lemmas.List.Elements.{All-cons, All-nil}
 use Rattle.vb_disk.specs.declared.cell.Cell.{Cell}
@@ -12,10 +13,32 @@ use Rattle.vb_journal.specs.declared.commit_stage.Stage.{Stage}
 use Rattle.vb_journal.specs.declared.commit_stage.Stage.TheVariants.{Journal, Opening, Homes, Closing, Rested}
 use Rattle.vb_journal.specs.declared.commit_stage.Turn.TheVariants.{First, FirstSync, Second, SecondSync}
 use Rattle.vb_journal.specs.Images.{image_at, slot_of}
-use Rattle.vb_journal.specs.Outcomes.{RecoversWholly}
+use Rattle.vb_journal.specs.declared.recover_error.RecoverError.{RecoverError}
+use Rattle.vb_journal.specs.Outcomes.{Recovers, RecoversWholly}
 use Rattle.vb_journal.specs.Plans.{closed_head, due_call, next_stage, opened_head}
 use Rattle.vb_journal.specs.Progress.{EachCrashRecoversWholly, IsUnharmed, IsWholeAt, OldOrNew, heads_needed, homes_needed, images_needed}
+use Rattle.vb_journal.specs.Recoveries.{Recovered}
+use Rattle.vb_journal.specs.Shown.{pages_from}
+use Rattle.vb_journal.proofs.Found.{length-pages_from, pages_from-at}
 use Rattle.vb_journal.proofs.TriedCells.{written-here}
+
+-- ---- recovering wholly
+
+-- where no home was hurt, the images are exactly these
+pub whole_found : (old new : DiskState) (head : Head) (images : ℕ → List ℕ) → ((slot : ℕ) → slot < head.nodes → IsWholeAt old (2 + slot)) → Recovers old new head images → RecoversWholly new head images
+whole_found old new head images unhurt recovers =
+    let due = pages_from images 0 head.nodes in
+    let gives : List (List ℕ) → Result Recovered RecoverError = λ l. Ok (record { head = head; images = l }) in
+    let same : recovers.found ≡ due = ext_get_or [] recovers.found due (recovers.count ∙ sym (length-pages_from images 0 head.nodes))
+    (λ slot within.
+    let low : slot < head.nodes = omega (arith, recovers.count) in
+    let front : 0 + slot ≡ slot = omega arith in
+    let at : image_at due slot ≡ images slot = pages_from-at images 0 head.nodes slot low ∙ ap images front in
+    elim (recovers.each slot low) [
+      | inl is ↦ is ∙ sym at
+      | inr hurt ↦ absurd (let whole = unhurt slot low in cc)
+    ]) in
+    recovers.is ∙ ap gives same
 
 -- what holds of the old or the new images at the next stage holds so at this one
 journal_before : (head : Head) (epoch : ℕ) (images : List (List ℕ)) (homes : ℕ → List ℕ) (P : Head → (ℕ → List ℕ) → Type 0) (b : Bool) (next : ℕ) → OldOrNew head epoch images homes P (cond b (Journal (next + 1)) (Opening First)) → OldOrNew head epoch images homes P (Journal next)

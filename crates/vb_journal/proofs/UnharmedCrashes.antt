@@ -1,6 +1,5 @@
 -- Where each place that counts is whole, each crash recovers wholly, at each stage of a commit and at rest.
-use Rattle.std.proofs.Common.{◌≡◌, ℕ, ◌+◌, ◌<◌, ◌≤◌, List, [], length, Some, None, Result, Ok, refl, sym, ap, subst, ◌∙◌, ◌⊎◌, inl, inr, arith}
-use Rattle.std.proofs.lemmas.List.{ext_get_or}
+use Rattle.std.proofs.Common.{◌≡◌, ℕ, ◌+◌, ◌<◌, ◌≤◌, List, [], length, Some, None, refl, sym, subst, ◌∙◌, ◌⊎◌, inl, inr, arith}
 use Rattle.vb_disk.specs.Crashes.{MayCrashTo}
 use Rattle.vb_disk.specs.States.{DiskState, IsDiskState, read_at}
 use Rattle.vb_head.specs.declared.head.Head.{Head}
@@ -9,36 +8,17 @@ use Rattle.vb_head.specs.Heads.{IsHead, IsInRange, head_page, head_read}
 use Rattle.vb_journal.specs.declared.commit_stage.Stage.{Stage}
 use Rattle.vb_journal.specs.declared.commit_stage.Stage.TheVariants.{Journal, Opening, Homes, Closing, Rested}
 use Rattle.vb_journal.specs.declared.commit_stage.Turn.TheVariants.{First, FirstSync, Second, SecondSync}
-use Rattle.vb_journal.specs.declared.recover_error.RecoverError.{RecoverError}
 use Rattle.vb_journal.specs.Images.{image_at, slot_of}
-use Rattle.vb_journal.specs.Outcomes.{Recovers, RecoversWholly}
+use Rattle.vb_journal.specs.Outcomes.{RecoversWholly}
 use Rattle.vb_journal.specs.Plans.{CanCommit, CanGoOn, closed_head, opened_head}
 use Rattle.vb_journal.specs.Progress.{EachCrashRecoversWholly, Fixed, Has, IsAtRest, IsCommitting, IsUnharmed, IsUnnamed, IsWholeAt, Trying, new_images}
-use Rattle.vb_journal.specs.Recoveries.{Recovered}
-use Rattle.vb_journal.specs.Shown.{good_of, pages_from}
+use Rattle.vb_journal.specs.Shown.{good_of}
 use Rattle.vb_journal.proofs.AfterCrashes.{Crash, after_counts, before_counts, closed_counts, crash_at, fits_head, home_is, journal_counts, large, reads_or_hurt}
-use Rattle.vb_journal.proofs.Found.{Counts, journal_read, length-pages_from, pages_from-at}
+use Rattle.vb_journal.proofs.Found.{Counts, journal_read}
 use Rattle.vb_journal.proofs.Heads.{MayReadHead-Trying, OneCounts-changed, OneCounts-standing, StandsOrHurt-Fixed, counting}
 use Rattle.vb_journal.proofs.Overlays.{named_or_not}
 use Rattle.vb_journal.proofs.TriedCells.{Trying-from_Fixed, Trying-from_Tried}
-
--- ---- nothing is missed
-
--- where no home was hurt, the images are exactly these
-whole_found : (old new : DiskState) (head : Head) (images : ℕ → List ℕ) → ((slot : ℕ) → slot < head.nodes → IsWholeAt old (2 + slot)) → Recovers old new head images → RecoversWholly new head images
-whole_found old new head images unhurt recovers =
-    let due = pages_from images 0 head.nodes in
-    let gives : List (List ℕ) → Result Recovered RecoverError = λ l. Ok (record { head = head; images = l }) in
-    let same : recovers.found ≡ due = ext_get_or [] recovers.found due (recovers.count ∙ sym (length-pages_from images 0 head.nodes))
-    (λ slot within.
-    let low : slot < head.nodes = omega (arith, recovers.count) in
-    let front : 0 + slot ≡ slot = omega arith in
-    let at : image_at due slot ≡ images slot = pages_from-at images 0 head.nodes slot low ∙ ap images front in
-    elim (recovers.each slot low) [
-      | inl is ↦ is ∙ sym at
-      | inr hurt ↦ absurd (let whole = unhurt slot low in cc)
-    ]) in
-    recovers.is ∙ ap gives same
+use Rattle.vb_journal.proofs.Unharmed.{whole_found}
 
 -- the homes of the images, and the others, are all of them
 all_homes : (head : Head) (images : List (List ℕ)) (d : DiskState) → ((i : ℕ) → i < length images → IsWholeAt d (2 + slot_of (image_at images i))) → ((slot : ℕ) → slot < head.nodes → IsUnnamed images slot → IsWholeAt d (2 + slot)) → (slot : ℕ) → slot < head.nodes → IsWholeAt d (2 + slot)
