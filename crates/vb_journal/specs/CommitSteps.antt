@@ -5,6 +5,7 @@ use Rattle.vb_disk.specs.declared.disk_error.DiskError.{DiskError}
 use Rattle.vb_disk.specs.declared.disk_error.DiskError.TheVariants.{Failed, Memory}
 use Rattle.vb_disk.specs.States.{DiskCall, Sync}
 use Rattle.vb_disk.specs.Within.{CrashesWithin}
+use Rattle.vb_geometry.specs.Layout.{data_start}
 use Rattle.vb_journal.specs.declared.commit.Commit.{Commit}
 use Rattle.vb_journal.specs.declared.commit_stage.CommitStep.{CommitStep}
 use Rattle.vb_journal.specs.Calls.{MakesFirst}
@@ -31,5 +32,5 @@ pub record CommitSteps (old new : Commit) (before after : DiskView) (result : Re
   pub called : CallsOnce Memory (not (is_rested (stage_of old))) before.calls after.calls result
   pub within : CrashesWithin before.told after.told
   pub no_memory : (calls : List DiskCall) → calls_left old ≡ Sync ∷ calls → IsErrOf result Memory → ⊥
-  pub data_stands : LeavesFrom (2 + 2 * (head_of old).nodes) before.told after.told result
+  pub data_stands : LeavesFrom (data_start (head_of old).nodes) before.told after.told result
   pub crash : (homes journal : ℕ → List ℕ) → GoesOn (head_of old) (epoch_of old) (images_of old) homes journal (stage_of old) (stage_of new) before.told after.told

@@ -1,6 +1,8 @@
 -- What a recovery finds on a disk after a crash.
 use Rattle.std.specs.Prelude.{◌≡◌, ◌⊎◌, ℕ, ◌+◌, ◌<◌, ◌≤◌, List, length, Some, Result, Ok, Err}
 use Rattle.vb_disk.specs.States.{DiskState, read_at}
+use Rattle.vb_geometry.specs.declared.geometry.TheConstants.{HEADS}
+use Rattle.vb_geometry.specs.Layout.{home_place, journal_place}
 use Rattle.vb_head.specs.declared.head.Head.{Head}
 use Rattle.vb_journal.specs.declared.recover_error.RecoverError.{RecoverError}
 use Rattle.vb_journal.specs.declared.recover_error.RecoverError.TheVariants.{NotAStore, Damaged}
@@ -30,12 +32,12 @@ pub record Recovers (old new : DiskState) (head : Head) (images : ℕ → List �
   pub found : List (List ℕ)
   pub is : recovery_on new ≡ Ok (record { head = head; images = found })
   pub count : length found ≡ head.nodes
-  pub each : (slot : ℕ) → slot < head.nodes → (image_at found slot ≡ images slot) ⊎ ((old.cells (2 + slot)).hurt ≡ Some (image_at found slot))
+  pub each : (slot : ℕ) → slot < head.nodes → (image_at found slot ≡ images slot) ⊎ ((old.cells (home_place slot)).hurt ≡ Some (image_at found slot))
 
 -- a head was hurt, or one of so many places at the front of the journal of a store with this many nodes
 pub record WasHurt (nodes count : ℕ) (d : DiskState) : Type 0 where
   pub place : ℕ
-  pub kind : (place < 2) ⊎ ((2 + nodes ≤ place) × (place < 2 + nodes + count))
+  pub kind : (place < HEADS) ⊎ ((HEADS + nodes ≤ place) × (place < journal_place nodes count))
   pub hurt : IsHurt d place
 
 -- after a crash the disk is refused as damaged, at a place that is hurt

@@ -1,6 +1,7 @@
 -- The calls of a commit of some images, in their order.
 use Rattle.std.specs.Prelude.{◌≡◌, ℕ, ◌+◌, ◌<◌, ◌≤◌, ◌^◌, Bool, true, false, nat_lt, ◌==◌, if◌then◌else◌, List, [], ◌∷◌, ◌++◌, length, drop, Option, Some, None}
 use Rattle.vb_disk.specs.States.{DiskCall, Write, Sync, Resize}
+use Rattle.vb_geometry.specs.Layout.{home_place, journal_place}
 use Rattle.vb_head.specs.declared.head.Head.{Head}
 use Rattle.vb_head.specs.declared.head.State.TheVariants.{Closed, Opened}
 use Rattle.vb_head.specs.Heads.{IsInRange, head_page}
@@ -59,13 +60,13 @@ journal_calls place (image ∷ images) = Write place image ∷ journal_calls (pl
 -- each image at its home
 abbrev pub home_calls : List (List ℕ) → List DiskCall
 home_calls [] = []
-home_calls (image ∷ images) = Write (2 + slot_of image) image ∷ home_calls images
+home_calls (image ∷ images) = Write (home_place (slot_of image)) image ∷ home_calls images
 
 -- the calls that are left at each stage: the journal, the heads that count it in, the homes, the heads that count
 -- it out, and a sync after each of them
 abbrev pub calls_from : Head → ℕ → List (List ℕ) → Stage → List DiskCall
 calls_from head epoch images (Journal next) =
-    journal_calls (2 + head.nodes + next) (drop next images) ++ (Sync ∷ (turn_calls (head_page (opened_head head epoch images)) First
+    journal_calls (journal_place head.nodes next) (drop next images) ++ (Sync ∷ (turn_calls (head_page (opened_head head epoch images)) First
     ++ (home_calls images ++ (Sync ∷ turn_calls (head_page (closed_head head epoch)) First))))
 calls_from head epoch images (Opening turn) =
     turn_calls (head_page (opened_head head epoch images)) turn
@@ -77,9 +78,9 @@ calls_from head epoch images Rested = []
 
 -- the call that is due at a stage, where there is one
 abbrev pub due_call : Head → ℕ → List (List ℕ) → Stage → DiskCall
-due_call head epoch images (Journal next) = if nat_lt next (length images) then Write (2 + head.nodes + next) (image_at images next) else Sync
+due_call head epoch images (Journal next) = if nat_lt next (length images) then Write (journal_place head.nodes next) (image_at images next) else Sync
 due_call head epoch images (Opening turn) = turn_call (head_page (opened_head head epoch images)) turn
-due_call head epoch images (Homes next) = if nat_lt next (length images) then Write (2 + slot_of (image_at images next)) (image_at images next) else Sync
+due_call head epoch images (Homes next) = if nat_lt next (length images) then Write (home_place (slot_of (image_at images next))) (image_at images next) else Sync
 due_call head epoch images (Closing turn) = turn_call (head_page (closed_head head epoch)) turn
 due_call head epoch images Rested = Sync
 

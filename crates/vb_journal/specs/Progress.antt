@@ -6,6 +6,7 @@ use Rattle.vb_disk.specs.Cells.{candidates}
 use Rattle.vb_disk.specs.Crashes.{MayCrashTo}
 use Rattle.vb_disk.specs.Moments.{EachMoment}
 use Rattle.vb_disk.specs.States.{DiskState}
+use Rattle.vb_geometry.specs.Layout.{home_place, journal_place}
 use Rattle.vb_head.specs.declared.head.Head.{Head}
 use Rattle.vb_head.specs.Heads.{head_page}
 use Rattle.vb_journal.specs.declared.commit_stage.Stage.{Stage}
@@ -90,10 +91,10 @@ pub record IsCommitting (head : Head) (epoch : ℕ) (images : List (List ℕ)) (
   pub size : d.size ≡ head.blocks
   pub first : Has (first_at (head_page head) (head_page (opened_head head epoch images)) (head_page (closed_head head epoch)) stage) (d.cells 0)
   pub second : Has (second_at (head_page head) (head_page (opened_head head epoch images)) (head_page (closed_head head epoch)) stage) (d.cells 1)
-  pub in_journal : (i : ℕ) → i < length images → Has (journal_at i (journal i) (image_at images i) stage) (d.cells (2 + head.nodes + i))
-  pub at_home : (i : ℕ) → i < length images → Has (home_at i (homes (slot_of (image_at images i))) (image_at images i) stage) (d.cells (2 + slot_of (image_at images i)))
-  pub beyond : (i : ℕ) → length images ≤ i → i < head.nodes → Has (Fixed (journal i)) (d.cells (2 + head.nodes + i))
-  pub others : (slot : ℕ) → slot < head.nodes → IsUnnamed images slot → Has (Fixed (homes slot)) (d.cells (2 + slot))
+  pub in_journal : (i : ℕ) → i < length images → Has (journal_at i (journal i) (image_at images i) stage) (d.cells (journal_place head.nodes i))
+  pub at_home : (i : ℕ) → i < length images → Has (home_at i (homes (slot_of (image_at images i))) (image_at images i) stage) (d.cells (home_place (slot_of (image_at images i))))
+  pub beyond : (i : ℕ) → length images ≤ i → i < head.nodes → Has (Fixed (journal i)) (d.cells (journal_place head.nodes i))
+  pub others : (slot : ℕ) → slot < head.nodes → IsUnnamed images slot → Has (Fixed (homes slot)) (d.cells (home_place slot))
 
 -- a store at rest: each place of its heads, homes and journal has one candidate
 pub record IsAtRest (head : Head) (homes journal : ℕ → List ℕ) (d : DiskState) : Type 0 where
@@ -101,8 +102,8 @@ pub record IsAtRest (head : Head) (homes journal : ℕ → List ℕ) (d : DiskSt
   pub size : d.size ≡ head.blocks
   pub first : Has (Fixed (head_page head)) (d.cells 0)
   pub second : Has (Fixed (head_page head)) (d.cells 1)
-  pub each_home : (slot : ℕ) → slot < head.nodes → Has (Fixed (homes slot)) (d.cells (2 + slot))
-  pub each_image : (i : ℕ) → i < head.nodes → Has (Fixed (journal i)) (d.cells (2 + head.nodes + i))
+  pub each_home : (slot : ℕ) → slot < head.nodes → Has (Fixed (homes slot)) (d.cells (home_place slot))
+  pub each_image : (i : ℕ) → i < head.nodes → Has (Fixed (journal i)) (d.cells (journal_place head.nodes i))
 
 -- the images of the nodes after the commit
 abbrev pub new_images : List (List ℕ) → (ℕ → List ℕ) → ℕ → List ℕ
@@ -201,9 +202,9 @@ IsWholeAt d place = (d.cells place).hurt ≡ None
 -- and the homes that no image is for
 pub record IsUnharmed (head : Head) (images : List (List ℕ)) (stage : Stage) (d : DiskState) : Type 0 where
   pub heads : All (IsWholeAt d) (heads_needed stage)
-  pub in_journal : (i : ℕ) → i < images_needed (length images) stage → IsWholeAt d (2 + head.nodes + i)
-  pub at_home : (i : ℕ) → i < length images → i < homes_needed (length images) stage → IsWholeAt d (2 + slot_of (image_at images i))
-  pub others : (slot : ℕ) → slot < head.nodes → IsUnnamed images slot → IsWholeAt d (2 + slot)
+  pub in_journal : (i : ℕ) → i < images_needed (length images) stage → IsWholeAt d (journal_place head.nodes i)
+  pub at_home : (i : ℕ) → i < length images → i < homes_needed (length images) stage → IsWholeAt d (home_place (slot_of (image_at images i)))
+  pub others : (slot : ℕ) → slot < head.nodes → IsUnnamed images slot → IsWholeAt d (home_place slot)
 
 -- what a step leaves of a disk that is known at its stage: one that is known at the stage after it. Each moment
 -- within it is known at the one stage or the other, and each crash at it recovers as at that one. No place is hurt by

@@ -9,6 +9,8 @@ use Rattle.vb_block.specs.Pages.{seal_of, sealed_part}
 use Rattle.vb_disk.specs.declared.disk_error.DiskError.{DiskError}
 use Rattle.vb_disk.specs.declared.disk_error.DiskError.TheVariants.{Failed, Memory as NoMemory}
 use Rattle.vb_disk.specs.Misses.{is_sealed}
+use Rattle.vb_geometry.specs.declared.geometry.TheConstants.{HEADS}
+use Rattle.vb_geometry.specs.Layout.{home_place}
 use Rattle.vb_head.specs.declared.head.Head.{Head}
 use Rattle.vb_head.specs.declared.head.HeadRead.{HeadRead}
 use Rattle.vb_head.specs.declared.head.HeadRead.TheVariants.{Good, Bad, Alien, Unsealed, Blank}
@@ -146,7 +148,7 @@ choice_of size reads = head_choice size (head_read (reads 0)) (head_read (reads 
 
 -- where the images of the journal begin
 abbrev pub journal_place : Head → ℕ
-journal_place head = 2 + head.nodes
+journal_place head = HEADS + head.nodes
 
 -- the images of the journal that a head counts in
 abbrev pub journal_of : (ℕ → List ℕ) → Head → List (List ℕ)
@@ -187,7 +189,7 @@ settled_head head = settled_from head head.state
 
 -- the image of the node of a slot: what stands at its home, with the journal put over it
 abbrev pub node_image : (ℕ → List ℕ) → Head → ℕ → List ℕ
-node_image reads head slot = image_over (journal_of reads head) slot (reads (2 + slot))
+node_image reads head slot = image_over (journal_of reads head) slot (reads (home_place slot))
 
 -- the images of all nodes, by slot
 abbrev pub node_images : (ℕ → List ℕ) → Head → List (List ℕ)

@@ -5,6 +5,7 @@ use Rattle.vb_disk.specs.Cells.{candidate_at, synced_cell}
 use Rattle.vb_disk.specs.Crashes.{MayCrashTo}
 use Rattle.vb_disk.specs.Moments.{EachMoment}
 use Rattle.vb_disk.specs.States.{DiskState, DiskCall, Write, Sync, IsDiskState, after_call, read_at}
+use Rattle.vb_geometry.specs.Layout.{home_place}
 use Rattle.vb_head.specs.declared.head.Head.{Head}
 use Rattle.vb_head.specs.declared.head.HeadRead.{HeadRead}
 use Rattle.vb_head.specs.declared.head.HeadRead.TheVariants.{Good}
@@ -269,7 +270,7 @@ HasRead begun journal d = HasReadImages begun journal.head journal.images d
 
 -- what stood at the homes when the recovery began
 abbrev pub homes_of : DiskState → ℕ → List ℕ
-homes_of begun = λ slot. newest_of (begun.cells (2 + slot))
+homes_of begun = λ slot. newest_of (begun.cells (home_place slot))
 
 -- what stood in the journal then
 abbrev pub images_in : DiskState → Head → ℕ → List ℕ
@@ -289,8 +290,8 @@ pub record HasWholePlaces (begun : DiskState) (before : Head) (images : List (Li
   pub size : d.size ≡ begun.size
   pub first : (d.cells 0).hurt ≡ None
   pub second : (d.cells 1).hurt ≡ None
-  pub homes : (i : ℕ) → i < length images → IsHomeWhole i stage (d.cells (2 + slot_of (image_at images i)))
-  pub homes_stand : (slot : ℕ) → slot < before.nodes → IsUnnamed images slot → d.cells (2 + slot) ≡ synced_cell (begun.cells (2 + slot))
+  pub homes : (i : ℕ) → i < length images → IsHomeWhole i stage (d.cells (home_place (slot_of (image_at images i))))
+  pub homes_stand : (slot : ℕ) → slot < before.nodes → IsUnnamed images slot → d.cells (home_place slot) ≡ synced_cell (begun.cells (home_place slot))
   pub others_stand : (place : ℕ) → journal_place before ≤ place → d.cells place ≡ synced_cell (begun.cells place)
 
 -- a commit whose journal was read goes on, at a stage
@@ -305,7 +306,7 @@ pub record IsReplaying (begun : DiskState) (before : Head) (epoch : ℕ) (images
 -- no image of the journal is for the slot, and its home stands as it did when the recovery began, but for a sync
 pub record StandsAtHome (begun : DiskState) (images : List (List ℕ)) (slot : ℕ) (cell : Cell) : Type 0 where
   pub unnamed : IsUnnamed images slot
-  pub stands : cell ≡ synced_cell (begun.cells (2 + slot))
+  pub stands : cell ≡ synced_cell (begun.cells (home_place slot))
 
 -- an image of the journal is for the slot, whatever stood at its home, and the home holds it as its one whole candidate
 pub record WasTakenHome (images : List (List ℕ)) (slot : ℕ) (cell : Cell) : Type 0 where
@@ -329,7 +330,7 @@ pub record IsRecovered (begun : DiskState) (head : Head) (d : DiskState) : Type 
   pub size : d.size ≡ begun.size
   pub first : d.cells 0 ≡ whole_cell (head_page head)
   pub second : d.cells 1 ≡ whole_cell (head_page head)
-  pub homes : (slot : ℕ) → slot < head.nodes → IsHomeOf begun (journal_of (reads_of begun) chosen) slot (d.cells (2 + slot))
+  pub homes : (slot : ℕ) → slot < head.nodes → IsHomeOf begun (journal_of (reads_of begun) chosen) slot (d.cells (home_place slot))
   pub others_stand : (place : ℕ) → journal_place head ≤ place → d.cells place ≡ synced_cell (begun.cells place)
 
 -- a crash of the disk leaves one that recovers to the same

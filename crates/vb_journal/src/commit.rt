@@ -3,6 +3,7 @@ ghost use Rattle.std.specs.Prelude.{◌≡◌, ℕ, List, ◌+◌, ◌*◌, ◌<
 ghost use Rattle.vb_disk.specs.Causes.{HasCause, UsesFailures};
 ghost use Rattle.vb_disk.specs.States.{DiskCall, Sync, Write};
 ghost use Rattle.vb_disk.specs.Within.{CrashesWithin};
+ghost use Rattle.vb_geometry.specs.Layout.{data_start};
 ghost use Rattle.vb_head.specs.Heads.{IsInRange, head_page};
 ghost use Rattle.vb_journal.specs.Calls.{turn_after, turn_call, MakesFirst};
 ghost use Rattle.vb_journal.specs.Plans.{answer_at, answer_to, closed_head, due_call, is_rested, next_stage, opened_head, position_of, CanCommit, CanFinish, CanGoOn};
@@ -14,6 +15,7 @@ use crate::{CommitStep, Head, Stage, State, Turn, write_head};
 use std::alloc::{AllocError, Global};
 use vb_block::{Page, get_u32};
 use vb_disk::{Disk, DiskError};
+use vb_geometry::HEADS;
 use vb_list::Items;
 use vb_steps::{Due, Got, Machine, step};
 
@@ -107,16 +109,18 @@ impl Commit {
         ensures no_memory { (calls : List DiskCall) → calls_left self.old ≡ Sync ∷ calls → IsErrOf result DiskError.Memory → ⊥ }
 
         // No place of data is written. It stands, or has its newest candidate left where the step made a sync.
-        ensures data { LeavesFrom (2 + 2 * (head_of self.old).nodes) (D.told disk.old) (D.told disk.new) result }
+        ensures data { LeavesFrom (data_start (head_of self.old).nodes) (D.told disk.old) (D.told disk.new) result }
 
         // Each moment within the step is known at the stage before or after it, and each crash at it leaves a disk
         // that recovers to the images from before the commit or to the new ones, and from Committed on to the new
-        // ones, but for what was hurt before the crash. So it does wholly where heads and homes were whole.
+        // ones, but for what was hurt before the crash. So it does wholly where each place
+        // that still counts was whole.
         ensures crash { (homes journal : ℕ → List ℕ) → GoesOn (head_of self.old) (epoch_of self.old) (images_of self.old) homes journal
             (stage_of self.old) (stage_of self.new) (D.told disk.old) (D.told disk.new) }
 
         // All of it as one relation, for callers to cite.
-        ensures steps { CommitSteps self.old self.new (disk_view (D.told disk.old) (D.seen disk.old) (D.faults disk.old) (D.failures_left disk.old) (D.calls disk.old))
+        ensures steps { CommitSteps self.old self.new
+            (disk_view (D.told disk.old) (D.seen disk.old) (D.faults disk.old) (D.failures_left disk.old) (D.calls disk.old))
             (disk_view (D.told disk.new) (D.seen disk.new) (D.faults disk.new) (D.failures_left disk.new) (D.calls disk.new)) result }
     {
         if self.is_rested() {
@@ -172,7 +176,7 @@ impl Commit {
         if (next as usize) < self.images.len() {
             let page = self.images.get(next as usize);
             Due::Write {
-                place: 2 + self.head.nodes + next,
+                place: HEADS + self.head.nodes + next,
                 page,
             }
         } else {
@@ -188,7 +192,7 @@ impl Commit {
         if (next as usize) < self.images.len() {
             let page = self.images.get(next as usize);
             Due::Write {
-                place: 2 + get_u32(page, 0),
+                place: HEADS + get_u32(page, 0),
                 page,
             }
         } else {

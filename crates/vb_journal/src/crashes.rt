@@ -2,6 +2,7 @@
 ghost use Rattle.std.specs.Prelude.{◌≡◌, ℕ, List, [], ◌+◌, ◌*◌, ◌≤◌};
 ghost use Rattle.vb_disk.specs.Crashes.{damaged, MayCrashTo};
 ghost use Rattle.vb_disk.specs.States.{synced, written, DiskState, IsDiskState};
+ghost use Rattle.vb_geometry.specs.Layout.{data_start};
 ghost use Rattle.vb_head.specs.declared.head.Head.{Head};
 ghost use Rattle.vb_head.specs.declared.head.State.TheVariants.{Closed};
 ghost use Rattle.vb_head.specs.Heads.{IsInRange};
@@ -57,11 +58,12 @@ pub fn damage_and_data_leave_a_store()
     ensures damage { (end : ℕ) (d : DiskState) (place : ℕ) (page : List ℕ) → HasSameCandidates end d (damaged d place page) }
     ensures data { (end : ℕ) (d : DiskState) (place : ℕ) (page : List ℕ) → end ≤ place → HasSameCandidates end d (written d place page) }
     ensures commit { (head : Head) (epoch : ℕ) (images : List (List ℕ)) (homes journal : ℕ → List ℕ) (stage : Stage) (old new : DiskState)
-        → CanFinish head epoch images → HasSameCandidates (2 + 2 * head.nodes) old new
+        → CanFinish head epoch images → HasSameCandidates (data_start head.nodes) old new
         → IsCommitting head epoch images homes journal stage old → IsCommitting head epoch images homes journal stage new }
-    ensures rest { (head : Head) (homes journal : ℕ → List ℕ) (old new : DiskState) → HasSameCandidates (2 + 2 * head.nodes) old new
+    ensures rest { (head : Head) (homes journal : ℕ → List ℕ) (old new : DiskState) → HasSameCandidates (data_start head.nodes) old new
         → IsAtRest head homes journal old → IsAtRest head homes journal new }
 
     // A sync leaves a store at rest too.
-    ensures synced { (head : Head) (homes journal : ℕ → List ℕ) (d : DiskState) → IsAtRest head homes journal d → IsAtRest head homes journal (synced d) }
+    ensures synced { (head : Head) (homes journal : ℕ → List ℕ) (d : DiskState) → IsAtRest head homes journal d
+        → IsAtRest head homes journal (synced d) }
 {}

@@ -1,6 +1,7 @@
 // The images of the journal, as a recovery reads them.
 ghost use Rattle.std.specs.Prelude.{◌≡◌, ◌+◌, ◌*◌, ◌<◌, ◌≤◌, ◌++◌, [], ◌∷◌, false, not, ◌||◌, nat_lt, length, get_or, vec_len, ℕ, None, OnOk};
 ghost use Rattle.vb_block.specs.Pages.{IsSealed};
+ghost use Rattle.vb_geometry.specs.Layout.{journal_place};
 ghost use Rattle.vb_head.specs.Heads.{IsHead};
 ghost use Rattle.vb_head.specs.declared.head.State.TheVariants.{Opened};
 ghost use Rattle.vb_journal.specs.Images.{slot_of, AreImages};
@@ -10,6 +11,7 @@ ghost use Rattle.vb_journal.specs.Recoveries.{image_refusal, is_named};
 use crate::{Head, Images, RecoverError, State};
 use std::alloc::{AllocError, Global};
 use vb_block::{Page, Why, due_seal, get_u32, kept_seal};
+use vb_geometry::HEADS;
 
 /// The images of a journal that were read, of which more are left.
 #[derive(Drop)]
@@ -60,16 +62,17 @@ impl Journal {
 
     /// The place of the next image.
     pub(crate) fn next_place(&self) -> u32
-        ensures place { result ≡ 2 + self.now.head.nodes + length self.now.images }
+        ensures place { result ≡ journal_place self.now.head.nodes (length self.now.images) }
         ensures within { result < self.now.head.blocks }
     {
-        2 + self.head.nodes + self.images.len() as u32
+        HEADS + self.head.nodes + self.images.len() as u32
     }
 
     #[tactic(auto, unfolding(crate::specs::Images::slot_of))]
     /// Why the next image is refused.
     pub(crate) fn refusal(&self, image: &Page) -> Option<RecoverError>
-        ensures refusal { result ≡ image_refusal self.now.head.nodes (2 + self.now.head.nodes + length self.now.images) self.now.images image.now }
+        ensures refusal { result ≡ image_refusal self.now.head.nodes (journal_place self.now.head.nodes (length self.now.images))
+            self.now.images image.now }
     {
         let place = self.next_place();
         let (kept, found) = (kept_seal(image), due_seal(image));
@@ -88,7 +91,7 @@ impl Journal {
     #[tactic(auto, unfolding(crate::specs::Images::slot_of))]
     /// Adds the next image, which isn't refused. For want of memory all stays.
     pub(crate) fn add(mut self, image: Page) -> Result<Grown, Journal>
-        requires { image_refusal self.head.nodes (2 + self.head.nodes + length self.images) self.images image ≡ None }
+        requires { image_refusal self.head.nodes (journal_place self.head.nodes (length self.images)) self.images image ≡ None }
         ensures { Grows self image result }
     {
         let slot = get_u32(&image, 0) as usize;

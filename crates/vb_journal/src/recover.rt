@@ -90,7 +90,8 @@ impl Recover {
 
         // It made the first of the calls that are left, by what reads gave when the recovery began.
         ensures list { (begun d : DiskState) → D.told disk.old ≡ Some d → IsRecovering (recovery_stage self.old) begun d
-            → Leaves (due_of (recovery_stage self.old)) (recovery_calls_left (recovery_stage self.old) begun) (recovery_calls_left (recovery_stage self.new) begun) result }
+            → Leaves (due_of (recovery_stage self.old)) (recovery_calls_left (recovery_stage self.old) begun)
+            (recovery_calls_left (recovery_stage self.new) begun) result }
 
         // What is to be noted is noted, by what reads gave when the recovery began.
         ensures noted { (begun d : DiskState) → D.told disk.old ≡ Some d → IsRecovering (recovery_stage self.old) begun d
@@ -106,13 +107,15 @@ impl Recover {
         ensures within { CrashesWithin (D.told disk.old) (D.told disk.new) }
 
         // So steps come to an end, over disks that tell nothing too.
-        ensures falls { Falls (due_of (recovery_stage self.old)) (most_calls_left (recovery_stage self.old)) (most_calls_left (recovery_stage self.new)) result }
+        ensures falls { Falls (due_of (recovery_stage self.old)) (most_calls_left (recovery_stage self.old))
+            (most_calls_left (recovery_stage self.new)) result }
 
         // From the first sync on each crash within the step leaves what recovers to the same.
         ensures crash { RecoversOn (recovery_stage self.old) (recovery_stage self.new) (D.told disk.old) (D.told disk.new) }
 
         // All of it as one relation, for callers to cite.
-        ensures steps { RecoverSteps self.old self.new (disk_view (D.told disk.old) (D.seen disk.old) (D.faults disk.old) (D.failures_left disk.old) (D.calls disk.old))
+        ensures steps { RecoverSteps self.old self.new
+            (disk_view (D.told disk.old) (D.seen disk.old) (D.faults disk.old) (D.failures_left disk.old) (D.calls disk.old))
             (disk_view (D.told disk.new) (D.seen disk.new) (D.faults disk.new) (D.failures_left disk.new) (D.calls disk.new)) result }
     {
         self.lends = false;

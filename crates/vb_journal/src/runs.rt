@@ -10,8 +10,8 @@ ghost use Rattle.vb_steps.specs.Runs.{Event, IsRun};
 /// Each run of a commit from a disk that is known at its stage, whichever of its calls fail and whatever these leave,
 /// ends on a disk that is known at the stage that it came to.
 pub fn each_run_of_a_commit_is_known()
-    ensures { (head : Head) (epoch : ℕ) (images : List (List ℕ)) (homes journal : ℕ → List ℕ) (stage last : Stage) (d end : DiskState) (events : List Event)
-        → CanFinish head epoch images → IsCommitting head epoch images homes journal stage d
+    ensures { (head : Head) (epoch : ℕ) (images : List (List ℕ)) (homes journal : ℕ → List ℕ) (stage last : Stage) (d end : DiskState)
+        (events : List Event) → CanFinish head epoch images → IsCommitting head epoch images homes journal stage d
         → IsRun (call_at head epoch images) (λ s got. next_stage (length images) s) stage d events last end
         → IsCommitting head epoch images homes journal last end }
 {}
