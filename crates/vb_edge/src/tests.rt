@@ -57,3 +57,18 @@ fn a_log_is_kept_in_a_file(rt: HostRuntime) -> Result<(), Fail> {
     assert_eq!(rt; nowhere.sync(), Err(LogError::Failed));
     Ok(())
 }
+
+#[test]
+fn a_log_is_opened_once_at_a_time(rt: HostRuntime) -> Result<(), Fail> {
+    let alloc = rt.alloc();
+    let name = "vb_edge_log_opened_twice";
+    let mut again = FileLog::at(alloc, rt, name)?;
+    {
+        let mut log = FileLog::at(alloc, rt, name)?;
+        log.append(&[1])?;
+        assert_eq!(rt; again.len(), Err(LogError::Failed));
+    }
+    assert_eq!(rt; again.len()?, 1);
+    fs::remove_file(&rt, name)?;
+    Ok(())
+}
