@@ -36,9 +36,15 @@ pub mod MountsMade
 pub mod Namings
 pub mod NamingsBegun
 pub mod NamingsEnded
+pub mod NextImages
+pub mod NextIndexed
+pub mod NextPlaces
+pub mod NextPlanned
+pub mod NextSettled
 pub mod OneOfThem
 pub mod PassesReads
 pub mod PhasesBeside
+pub mod PlacesBegun
 pub mod PlacesLeft
 pub mod PlacesUsed
 pub mod ReadingsBeside

@@ -14,6 +14,7 @@ use Rattle.vb_index.specs.Changes.{blank_ref}
 use Rattle.vb_index.specs.Indexes.{IndexState}
 use Rattle.vb_index.specs.Nodes.{held_at, is_file_node, pages_in, pages_of_slot, refs_of}
 use Rattle.vb_inode.specs.declared.node.Node.{Node}
+use Rattle.vb_inode.specs.Layout.{AreRefs}
 use Rattle.vb_inode.specs.Nodes.{is_free}
 use Rattle.vb_inode.specs.Reading.{IsNodeOf}
 use Rattle.vb_nodes.specs.declared.errors.TableError.{TableError}
@@ -89,12 +90,14 @@ IsIndexOf-made head place places nodes index all read is =
     let Fits : List (Option Held) → (Held → Type 0) → Type 0 = λ slots P. (slot : ℕ) (held : Held) → held_at slots slot ≡ Some held → P held in
     let Referred : Held → Type 0 = λ h. length h.refs ≡ data_pages_of h.node.length in
     let Mapped : Held → Type 0 = λ h. length h.node.maps ≡ map_pages_of h.node.length in
+    let Named : Held → Type 0 = λ h. AreRefs h.node.maps in
     record {
       slots = ap length made.held ∙ length-map nodes held_from ∙ all;
       limits = made.under;
       pages = omega (arith, ap pages_in made.held, ap (λ (l : Limits). l.pages) made.under, pages_held nodes, made.few);
       refs = subst (λ slots. Fits slots Referred) (sym made.held) (each_held Referred nodes (All-weaker Of (λ n. Referred (fresh n)) (λ n of. length-replicate (data_pages_of n.length) blank_ref) nodes read.of_store));
       maps = subst (λ slots. Fits slots Mapped) (sym made.held) (each_held Mapped nodes (All-weaker Of (λ n. Mapped (fresh n)) (λ n of. of.in_range.mapped) nodes read.of_store));
+      map_refs = subst (λ slots. Fits slots Named) (sym made.held) (each_held Named nodes (All-weaker Of (λ n. Named (fresh n)) (λ n of. of.refs) nodes read.of_store));
     }
 
 -- ---- places

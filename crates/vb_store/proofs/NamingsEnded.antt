@@ -15,6 +15,7 @@ use Rattle.vb_index.specs.declared.held.Held.{Held}
 use Rattle.vb_index.specs.Changes.{with_ref}
 use Rattle.vb_index.specs.Indexes.{IndexState}
 use Rattle.vb_index.specs.Nodes.{held_at, pages_in, pages_of_slot, refs_of}
+use Rattle.vb_inode.specs.Layout.{AreRefs}
 use Rattle.vb_nodes.specs.Claiming.{ClaimsState, is_claimed}
 use Rattle.vb_tree.specs.declared.tree.Limits.{Limits}
 use Rattle.vb_tree.specs.Trees.{data_pages_of, map_pages_of}
@@ -65,6 +66,16 @@ mapped_with_ref page r (Some old) all held is =
     let same : with_ref page r old ≡ held = cc is in
     subst (λ (h : Held). length h.node.maps ≡ map_pages_of h.node.length) same (all old refl)
 
+-- the references of whose map pages can stand in a block
+abbrev IsNamed : Option Held → Type 0
+IsNamed o = (held : Held) → o ≡ Some held → AreRefs held.node.maps
+
+named_with_ref : (page : ℕ) (r : Ref) (o : Option Held) → IsNamed o → IsNamed (option_map (with_ref page r) o)
+named_with_ref page r None all held is = absurd (cc is)
+named_with_ref page r (Some old) all held is =
+    let same : with_ref page r old ≡ held = cc is in
+    subst (λ (h : Held). AreRefs h.node.maps) same (all old refl)
+
 slots_with_refs : (refs : List Ref) (slots : List (Option Held)) (slot first : ℕ) → length (with_refs_at slots slot first refs) ≡ length slots
 slots_with_refs [] slots slot first = refl
 slots_with_refs (r ∷ rs) slots slot first = slots_with_refs rs (with_ref_at slots slot first r) slot (first + 1) ∙ length-set slots slot (option_map (with_ref first r) (held_at slots slot))
@@ -78,6 +89,7 @@ IsIndexOf-set head old new slot first refs is limits nodes =
       pages = omega (arith, is.pages, ap (λ (l : Limits). l.pages) limits, ap pages_in nodes, pages_with_refs refs old.nodes slot first);
       refs = subst (λ slots. Fits slots IsReferred) (sym nodes) (kept IsReferred referred_with_ref refs old.nodes slot first is.refs);
       maps = subst (λ slots. Fits slots IsMapped) (sym nodes) (kept IsMapped mapped_with_ref refs old.nodes slot first is.maps);
+      map_refs = subst (λ slots. Fits slots IsNamed) (sym nodes) (kept IsNamed named_with_ref refs old.nodes slot first is.map_refs);
     }
 
 -- ---- places that are named
@@ -143,6 +155,7 @@ CanView-ended head index claims is closed of first range named blanks =
       pages = of.pages;
       refs = of.refs;
       maps = of.maps;
+      map_refs = of.map_refs;
       above = all_counted (λ place. data_start head ≤ place) (places_in index.nodes) (λ place some. omega (arith, first, (within place some).0));
       below = all_counted (λ place. place < head.blocks) (places_in index.nodes) (λ place some. omega (arith, range, (within place some).1));
       once = λ place. omega (arith, counts place, claims_few (is_claimed claims place));

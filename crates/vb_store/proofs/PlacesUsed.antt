@@ -10,6 +10,7 @@ use Rattle.vb_index.specs.Nodes.{held_at, is_file_node, pages_in, pages_of_slot,
 use Rattle.vb_tree.specs.declared.tree.Limits.{Limits}
 use Rattle.vb_tree.specs.Trees.{data_pages_of, map_pages_of}
 use Rattle.vb_space.specs.Spaces.{DataPlaces}
+use Rattle.vb_store.proofs.NextPlaces.{none_next}
 use Rattle.vb_store.specs.Views.{CanView, IsSpaceOf, IsView, limits_of, places_in, places_of, places_of_slot}
 
 -- a slot has a reference for each of its pages, and for each of its map pages
@@ -34,7 +35,7 @@ places-few (o ∷ nodes) referred =
     omega (arith, length-append (places_of_slot o) (places_in nodes), sum_by-cons pages_of_slot o nodes, slot_places o (referred 0), rest)
 
 -- a view of a store at rest, with the space that its references take
-pub IsView-of : (head : Head) (index : IndexState) (space : DataPlaces) → CanView head index → length index.nodes ≡ head.nodes → IsSpaceOf head index space → IsView (record { head = head; index = index; space = space })
+pub IsView-of : (head : Head) (index : IndexState) (space : DataPlaces) → CanView head index → length index.nodes ≡ head.nodes → IsSpaceOf head index space → IsView (record { head = head; index = index; next = None; space = space })
 IsView-of head index space can slots is = record {
   can = can;
   slots = slots;
@@ -42,6 +43,8 @@ IsView-of head index space can slots is = record {
   end = omega (arith, is.first, is.end);
   few = omega (arith, is.few, can.pages, places-few index.nodes (λ slot held there. (can.maps slot held there, can.refs slot held there)));
   committed = is.committed;
+  can_next = tt;
+  begun = λ place. (λ is_next. absurd (none_next space place is.none_begun is_next), λ within. absurd (omega (arith, within.1)));
 }
 
 -- an index under a head's limits has as many slots

@@ -15,6 +15,8 @@ pub mod Mounting
 pub mod Mounts
 pub mod MountsBeside
 pub mod Namings
+pub mod NextIndexes
+pub mod NextViews
 pub mod NodesRead
 pub mod OneOf
 pub mod Readings

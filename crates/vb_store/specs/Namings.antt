@@ -5,18 +5,21 @@ use Rattle.vb_head.specs.declared.head.Head.{Head}
 use Rattle.vb_index.specs.declared.held.Held.{Held}
 use Rattle.vb_index.specs.Indexes.{IndexState}
 use Rattle.vb_index.specs.Nodes.{held_at, pages_in, refs_at, refs_of}
+use Rattle.vb_inode.specs.Layout.{AreRefs}
 use Rattle.vb_nodes.specs.Claiming.{ClaimsState, is_claimed}
 use Rattle.vb_tree.specs.Trees.{data_pages_of, map_pages_of}
 use Rattle.vb_store.specs.declared.map_page.MapPage.{MapPage}
 use Rattle.vb_store.specs.Views.{limits_of, places_of}
 
--- an index has the slots of a head and keeps its limits, and each node has a reference for each of its pages and map pages
+-- an index has the slots of a head and keeps its limits, and each node has a reference for each of its pages and map
+-- pages, the latter such as can stand in a block
 pub record IsIndexOf (head : Head) (index : IndexState) : Type 0 where
   pub slots : length index.nodes ≡ head.nodes
   pub limits : index.limits ≡ limits_of head
   pub pages : pages_in index.nodes ≤ index.limits.pages
   pub refs : (slot : ℕ) (held : Held) → held_at index.nodes slot ≡ Some held → length held.refs ≡ data_pages_of held.node.length
   pub maps : (slot : ℕ) (held : Held) → held_at index.nodes slot ≡ Some held → length held.node.maps ≡ map_pages_of held.node.length
+  pub map_refs : (slot : ℕ) (held : Held) → held_at index.nodes slot ≡ Some held → AreRefs held.node.maps
 
 -- ---- which places are named
 

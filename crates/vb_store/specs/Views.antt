@@ -1,7 +1,6 @@
 -- Views: the committed state of a store in memory, and the data places that it uses.
-use Rattle.std.specs.Prelude.{◌≡◌, ◌↔◌, ℕ, ◌+◌, ◌-◌, ◌<◌, ◌≤◌, ◌==◌, List, [], ◌∷◌, ◌++◌, length, replicate, map, count_by, Option, Some, None, unwrap_or}
-use Rattle.std.specs.List.{All, Contains, flat_map}
-use Rattle.vb_block.specs.declared.digest.Ref.{Ref}
+use Rattle.std.specs.Prelude.{◌≡◌, ◌↔◌, ℕ, ◌+◌, ◌-◌, ◌<◌, ◌≤◌, ◌==◌, List, [], ◌∷◌, length, replicate, count_by, Option, Some, None}
+use Rattle.std.specs.List.{All, Contains}
 use Rattle.vb_geometry.specs.Layout as geometry
 use Rattle.vb_geometry.specs.Layout.{page_limit}
 use Rattle.vb_head.specs.declared.head.Head.{Head}
@@ -9,15 +8,19 @@ use Rattle.vb_head.specs.declared.head.State.TheVariants.{Closed}
 use Rattle.vb_head.specs.Heads.{IsInRange}
 use Rattle.vb_index.specs.declared.held.Held.{Held}
 use Rattle.vb_index.specs.Indexes.{IndexState}
-use Rattle.vb_index.specs.Nodes.{held_at, pages_in, refs_of, root_held}
-use Rattle.vb_space.specs.Spaces.{DataPlaces, IsCommitted, committed_count, next_count}
+use Rattle.vb_index.specs.Nodes.{held_at, pages_in, root_held}
+use Rattle.vb_inode.specs.Layout.{AreRefs}
+pub use Rattle.vb_plan.specs.Places.{places_in, places_of, places_of_slot}
+use Rattle.vb_space.specs.Spaces.{DataPlaces, IsCommitted, IsNext, committed_count, next_count}
 use Rattle.vb_tree.specs.declared.tree.Limits.{Limits}
 use Rattle.vb_tree.specs.Trees.{data_pages_of, map_pages_of}
 
--- what contracts see of a view: its head, the index of the committed nodes, and the data places
+-- what contracts see of a view: its head, the index of the committed nodes, that of the next view's nodes where one is
+-- begun, and the data places
 pub record ViewState : Type 0 where
   pub head : Head
   pub index : IndexState
+  pub next : Option IndexState
   pub space : DataPlaces
 
 -- the first data place of a store
@@ -28,21 +31,13 @@ data_start head = geometry.data_start head.nodes
 abbrev pub limits_of : Head → Limits
 limits_of head = record { pages = page_limit head.blocks head.nodes; nodes = head.nodes }
 
--- the places that references name
-abbrev pub places_of : List Ref → List ℕ
-places_of refs = map (λ r. r.place) refs
-
--- the places of the map pages of what a slot holds, and then those of its data pages
-abbrev pub places_of_slot : Option Held → List ℕ
-places_of_slot None = []
-places_of_slot (Some held) = places_of held.node.maps ++ places_of (unwrap_or (refs_of held) [])
-
--- the places of the map pages and data pages of all slots
-abbrev pub places_in : List (Option Held) → List ℕ
-places_in nodes = flat_map places_of_slot nodes
+-- the places that the references of a next view name, none where none is begun
+abbrev pub places_of_next : Option IndexState → List ℕ
+places_of_next None = []
+places_of_next (Some index) = places_in index.nodes
 
 -- an index is that of a store at rest: it keeps the store's limits, each file has its pages and its map pages, and
--- their references name data places, each of them once
+-- their references, which can stand in blocks, name data places, each of them once
 pub record CanView (head : Head) (index : IndexState) : Type 0 where
   pub range : IsInRange head
   pub closed : head.state ≡ Closed
@@ -50,6 +45,7 @@ pub record CanView (head : Head) (index : IndexState) : Type 0 where
   pub pages : pages_in index.nodes ≤ index.limits.pages
   pub refs : (slot : ℕ) (held : Held) → held_at index.nodes slot ≡ Some held → length held.refs ≡ data_pages_of held.node.length
   pub maps : (slot : ℕ) (held : Held) → held_at index.nodes slot ≡ Some held → length held.node.maps ≡ map_pages_of held.node.length
+  pub map_refs : (slot : ℕ) (held : Held) → held_at index.nodes slot ≡ Some held → AreRefs held.node.maps
   pub above : All (λ place. data_start head ≤ place) (places_in index.nodes)
   pub below : All (λ place. place < head.blocks) (places_in index.nodes)
   pub once : (place : ℕ) → count_by (λ p. p == place) (places_in index.nodes) ≤ 1
@@ -67,8 +63,14 @@ pub record IsSpaceOf (head : Head) (index : IndexState) (s : DataPlaces) : Type 
 abbrev pub empty_index : Head → IndexState
 empty_index head = record { limits = limits_of head; nodes = Some root_held ∷ replicate (head.nodes - 1) None }
 
--- a view: its index is that of its head, and of its data places the committed view uses exactly those that the
--- index's references name, which are at most half of them
+-- the index of a next view, where one is begun, can be that of a store at rest with this head
+abbrev pub CanViewNext : Head → Option IndexState → Type 0
+CanViewNext head None = Unit {0}
+CanViewNext head (Some index) = CanView head index × (length index.nodes ≡ head.nodes)
+
+-- a view: its index is that of its head, and so is that of the next view, where one is begun; of its data places the
+-- committed view uses exactly those that the index's references name, which are at most half of them, and the next view
+-- exactly those that the next index's references name, and none where none is begun
 pub record IsView (v : ViewState) : Type 0 where
   pub can : CanView v.head v.index
   pub slots : length v.index.nodes ≡ v.head.nodes
@@ -76,7 +78,9 @@ pub record IsView (v : ViewState) : Type 0 where
   pub end : v.space.first + length v.space.users ≡ v.head.blocks
   pub few : committed_count v.space ≤ v.index.limits.pages
   pub committed : (place : ℕ) → IsCommitted v.space place ↔ Contains (places_in v.index.nodes) place
+  pub can_next : CanViewNext v.head v.next
+  pub begun : (place : ℕ) → IsNext v.space place ↔ Contains (places_of_next v.next) place
 
--- no next view is begun in its data places
+-- no next view is begun
 abbrev pub HasNoneBegun : ViewState → Type 0
-HasNoneBegun v = next_count v.space ≡ 0
+HasNoneBegun v = v.next ≡ None

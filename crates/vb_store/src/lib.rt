@@ -25,6 +25,9 @@ mod mount_stage;
 mod mount_steps;
 mod mounts_beside;
 mod new_homes;
+mod next_index;
+mod next_laws;
+mod next_places;
 mod node_blocks;
 mod one_of;
 mod recovered_stores;
@@ -53,6 +56,7 @@ pub use known_views::{
 pub use mended_heads::a_mended_head_keeps_what_may_be_recovered;
 pub use mount::Mount;
 pub use mounts_beside::{a_mount_goes_on_beside_damage, a_mount_hands_on_what_it_knows};
+pub use next_laws::{a_next_index_can_be_viewed, a_plan_over_a_view_can_be_committed};
 pub use one_of::{
     a_clear_disk_recovers_one_of_its_views, a_view_of_a_disk_stays, what_may_be_recovered_stays,
 };
@@ -61,6 +65,7 @@ pub use recovered_stores::{
 };
 pub use same_stores::{the_same_pages_recover_the_same_tree, the_same_store_has_the_same_metadata};
 pub use settled_stores::{a_store_at_rest_is_settled_for_a_view, what_is_read_leads_to_a_view};
+pub use vb_plan::{Plan as CommitPlan, PlanPage};
 pub use view::{Mounted, View};
 
 #[cfg(test)]

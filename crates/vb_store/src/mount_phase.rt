@@ -1,8 +1,7 @@
 // What a mount is about: the journal, or homes and map pages.
-ghost use Rattle.std.specs.Prelude.{◌≡◌, IsSome};
+ghost use Rattle.std.specs.Prelude.{◌≡◌, IsSome, None};
 ghost use Rattle.vb_journal.specs.Recovering.{due_of};
 ghost use Rattle.vb_journal.specs.Recovers.{recovery_stage};
-ghost use Rattle.vb_space.specs.Spaces.{next_count};
 
 use crate::View;
 use crate::mount_stage::MountStage;
@@ -19,7 +18,7 @@ pub(crate) struct JournalPhase {
 #[derive(Drop)]
 pub(crate) struct ReadyView {
     pub(crate) view: View,
-    ghost none_begun: { next_count view.space ≡ 0 },
+    ghost none_begun: { view.next ≡ None },
 }
 
 /// How far a mount has come.

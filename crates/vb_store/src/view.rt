@@ -1,6 +1,8 @@
 // The view of a store's committed state.
-ghost use Rattle.std.specs.Prelude.{◌≡◌, length, IfOk};
+ghost use Rattle.std.specs.Prelude.{◌≡◌, length, None, IfOk};
 ghost use Rattle.vb_store.specs.Views.{CanView, IsSpaceOf};
+
+mod next_view;
 
 use crate::geometry::data_start_of;
 use crate::used_places::used_places;
@@ -11,11 +13,13 @@ use vb_index::Index;
 use vb_space::Space;
 
 /// The committed state of a store in memory: its head, its nodes with the references of their pages, and which of
-/// its data places are used. Contracts see these three.
+/// its data places are used; and beside it the nodes of the next view, while a commit to one goes on. Contracts see
+/// these four.
 #[derive(Drop)]
 pub struct View {
     head: Head,
     index: Index,
+    next: Option<Index>,
     space: Space,
 }
 
@@ -24,13 +28,13 @@ impl Model for View {
 
     ghost Value = { ViewState };
 
-    ghost view = { λ a. record { head = a.head; index = a.index; space = a.space } };
+    ghost view = { λ a. record { head = a.head; index = a.index; next = a.next; space = a.space } };
 
-    ghost invariant = { λ a. IsView (record { head = a.head; index = a.index; space = a.space }) };
+    ghost invariant = { λ a. IsView (record { head = a.head; index = a.index; next = a.next; space = a.space }) };
 }
 
 impl View {
-    ghost use Rattle.vb_space.specs.Spaces.{next_count};
+    ghost use Rattle.std.specs.Option.{option_copied};
     ghost use Rattle.vb_store.specs.Views.{IsView};
 
     /// The view of a store at rest with this head, whose nodes the index has. No next view is begun.
@@ -41,7 +45,7 @@ impl View {
 
         // The committed view uses exactly the places that the references name, at most half of the data places.
         ensures view { IfOk result (λ view. IsView view) }
-        ensures none_begun { IfOk result (λ view. next_count view.space ≡ 0) }
+        ensures none_begun { IfOk result (λ view. view.next ≡ None) }
     {
         let space = space_of(alloc, &head, &index)?;
         Ok(View::with_space(head, index, space))
@@ -55,9 +59,15 @@ impl View {
         ensures head { result.head ≡ head }
         ensures index { result.index ≡ index }
         ensures space { result.space ≡ space }
+        ensures none_begun { result.next ≡ None }
         ensures view { IsView result }
     {
-        View { head, index, space }
+        View {
+            head,
+            index,
+            next: None,
+            space,
+        }
     }
 
     /// The committed nodes, with the references of their pages.
@@ -66,6 +76,13 @@ impl View {
         ensures view { IsView self.now }
     {
         &self.index
+    }
+
+    /// The nodes of the next view, with the references of their pages, where one is begun.
+    pub fn next(&self) -> Option<&Index>
+        ensures { option_copied result ≡ self.now.next }
+    {
+        self.next.as_ref()
     }
 
     /// The head of the committed state.

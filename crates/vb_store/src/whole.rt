@@ -1,6 +1,5 @@
 // The view of a tree all of whose blocks were read.
-ghost use Rattle.std.specs.Prelude.{◌≡◌, IfOk, IfErr};
-ghost use Rattle.vb_space.specs.Spaces.{next_count};
+ghost use Rattle.std.specs.Prelude.{◌≡◌, None, IfOk, IfErr};
 
 use crate::mount_parts::Whole;
 use crate::view::{View, space_of};
@@ -10,7 +9,7 @@ use std::alloc::Global;
 pub(crate) fn view_of(alloc: Global, whole: Whole) -> Result<View, Whole>
     ensures head { IfOk result (λ view. view.head ≡ whole.head) }
     ensures index { IfOk result (λ view. view.index ≡ whole.index) }
-    ensures none_begun { IfOk result (λ view. next_count view.space ≡ 0) }
+    ensures none_begun { IfOk result (λ view. view.next ≡ None) }
     ensures stands { IfErr result (λ left. left ≡ whole) }
 {
     match space_of(alloc, &whole.head, &whole.index) {
