@@ -60,6 +60,7 @@ pub mod SameStores
 pub mod SameTrees
 pub mod ShownByChoices
 pub mod SlotsRead
+pub mod SmallTrees
 pub mod SoundImages
 pub mod StagesKept
 pub mod StepsBeside

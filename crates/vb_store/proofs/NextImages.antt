@@ -1,11 +1,8 @@
 -- The images of a plan may be committed.
-use Rattle.std.proofs.Common.{◌≡◌, ◌≢◌, ℕ, ◌+◌, ◌*◌, ◌<◌, ◌≤◌, ◌^◌, ◌==◌, List, [], length, get_or, map, sym, ap, subst, ◌∙◌, arith}
-use Rattle.std.specs.Prelude.{count_by, not}
+use Rattle.std.proofs.Common.{◌≡◌, ℕ, ◌+◌, ◌<◌, ◌^◌, List, [], length, get_or, map, sym, ap, subst, ◌∙◌, arith}
+use Rattle.std.specs.Prelude.{not}
 use Rattle.std.specs.List.{range_with_len}
 use Rattle.std.proofs.lemmas.List.{get_or-map, length-map}
-use Rattle.vb_block.specs.Pages.{IsSealed}
-use Rattle.vb_head.specs.declared.head.Head.{Head}
-use Rattle.vb_head.specs.declared.head.State.TheVariants.{Closed}
 use Rattle.vb_inode.specs.declared.next_view.NextNode.{NextNode}
 use Rattle.vb_inode.specs.declared.node.Node.{Node}
 use Rattle.vb_inode.specs.Layout.{node_page}

@@ -1,11 +1,10 @@
 -- The index of the view that a commit makes, as it is built.
-use Rattle.std.proofs.Common.{◌≡◌, ◌≢◌, ℕ, zero, suc, ◌+◌, ◌<◌, ◌≤◌, Bool, true, false, cond, eqb, List, [], ◌∷◌, ◌++◌, length, get_or, set, take, drop, map, replicate, Option, Some, None, unwrap_or, refl, sym, ap, subst, ◌∙◌, inl, inr, arith, length-append}
+use Rattle.std.proofs.Common.{◌≡◌, ℕ, zero, suc, ◌+◌, ◌<◌, ◌≤◌, Bool, true, false, cond, eqb, List, [], ◌∷◌, ◌++◌, length, get_or, set, take, map, replicate, Option, Some, None, unwrap_or, refl, sym, ap, subst, ◌∙◌, inl, inr, arith, length-append}
 use Rattle.std.specs.Prelude.{count_by}
 use Rattle.std.specs.List.{All, range_with_len}
 use Rattle.std.proofs.lemmas.Bool.{cases_eq, cases_lt, eq-eqb, eqb-true, leb-true, ne_eqb}
-use Rattle.std.proofs.lemmas.List.{drop_all, drop_more, ext_get_or, get_or-map, get_or-replicate, get_or-set_other, get_or-set_same, length-map, length-replicate, length-set, append_assoc, get_or_past, set-get_or, set-set, take_all}
+use Rattle.std.proofs.lemmas.List.{ext_get_or, get_or-map, get_or-set_other, get_or-set_same, length-map, length-replicate, length-set, append_assoc, get_or_past, set-get_or, set-set}
 use Rattle.std.proofs.Math.Seq.{set-append_seam}
-use Rattle.std.proofs.lemmas.List.Elements.{All-head, All-tail}
 use Rattle.std.proofs.lemmas.List.FromFn.{get_or-map-range_with_len, length-map-range_with_len, map-range_with_len_more}
 use Rattle.std.proofs.lemmas.List.Sums.{sum_by-cons}
 use Rattle.std.specs.Option.{option_and_then, option_map}
@@ -23,11 +22,10 @@ use Rattle.vb_inode.specs.Nodes.{is_free, may_have_length}
 use Rattle.vb_inode.specs.Reading.{IsNodeOf}
 use Rattle.vb_tree.specs.Trees.{data_pages_of, longest_file}
 use Rattle.vb_nodes.specs.Holdings.{held_from, held_of}
-use Rattle.vb_nodes.specs.Faults.{IsNodeTree}
 use Rattle.vb_nodes.specs.Paths.{free_node}
 use Rattle.vb_nodes.specs.Paths.{node_at as node_of_list}
 use Rattle.vb_plan.specs.Plans.{by_slot, node_at, node_in, with_held}
-use Rattle.vb_plan.proofs.Slots.{length-by_slot, length-with_held}
+use Rattle.vb_plan.proofs.Slots.{length-by_slot}
 use Rattle.vb_store.specs.Metadata.{with_ref_at, with_refs_at}
 use Rattle.vb_store.specs.NextIndexes.{CanIndex, Fits, nodes_held, nodes_of_table}
 

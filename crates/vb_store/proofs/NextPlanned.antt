@@ -1,16 +1,15 @@
 -- A plan over a view, and the view once the next one is begun.
-use Rattle.std.proofs.Common.{◌≡◌, ℕ, zero, suc, ◌+◌, ◌-◌, ◌<◌, ◌≤◌, ◌^◌, ◌==◌, Bool, true, false, List, [], ◌∷◌, length, get_or, take, map, Option, Some, None, refl, sym, ap, subst, ◌∙◌, ◌⊎◌, inl, inr, arith}
-use Rattle.std.specs.Prelude.{count_by, Contains, ◌↔◌}
+use Rattle.std.proofs.Common.{◌≡◌, ℕ, ◌+◌, ◌<◌, ◌≤◌, ◌^◌, ◌==◌, false, List, [], length, get_or, take, map, Option, Some, None, refl, sym, ap, subst, ◌∙◌, ◌⊎◌, inl, inr, arith}
+use Rattle.std.specs.Prelude.{count_by, Contains}
 use Rattle.std.specs.List.{All}
 use Rattle.std.specs.Option.{option_map}
 use Rattle.std.proofs.lemmas.Bool.{false≢true}
 use Rattle.std.proofs.lemmas.List.{get_or_default, take_all}
 use Rattle.std.proofs.lemmas.List.Elements.{All-contains, All-nil}
 use Rattle.vb_block.specs.declared.digest.Ref.{Ref}
-use Rattle.vb_head.specs.declared.head.Head.{Head}
 use Rattle.vb_index.specs.declared.held.Held.{Held}
 use Rattle.vb_index.specs.Indexes.{IndexState}
-use Rattle.vb_index.specs.Nodes.{held_at, pages_in}
+use Rattle.vb_index.specs.Nodes.{held_at}
 use Rattle.vb_inode.specs.declared.next_view.NextNode.{NextNode}
 use Rattle.vb_inode.specs.Layout.{AreRefs}
 use Rattle.vb_inode.specs.Nodes.{is_free}
@@ -19,7 +18,7 @@ use Rattle.vb_nodes.specs.Faults.{IsNodeTree}
 use Rattle.vb_nodes.specs.Holdings.{pages_of_nodes}
 use Rattle.vb_plan.specs.Conditions.{CanPlan, CanSeal, IsNextNode}
 use Rattle.vb_plan.specs.Following.{CanFollow}
-use Rattle.vb_plan.specs.Laws.{nodes_next, pages_of_next, place_of, slots_next}
+use Rattle.vb_plan.specs.Laws.{pages_of_next, place_of, slots_next}
 use Rattle.vb_plan.specs.Maps.{maps_in}
 use Rattle.vb_plan.specs.Plans.{Basis, PlanState, all_held, all_pages, by_slot, node_at, node_in, plan_of}
 use Rattle.vb_plan.specs.Seen.{basis_of}
@@ -33,7 +32,7 @@ use Rattle.vb_plan.proofs.PlannedPlaces.{places_of_plan}
 use Rattle.vb_plan.proofs.Sealed.{node_next_given}
 use Rattle.vb_plan.proofs.Slots.{holds_in_slots, length-by_slot}
 use Rattle.vb_space.specs.Free.{has_committed}
-use Rattle.vb_space.specs.Spaces.{DataPlaces, IsCommitted, IsFree, IsNext, free_count, free_places, next_count}
+use Rattle.vb_space.specs.Spaces.{DataPlaces, IsFree, IsNext, free_count, free_places, next_count}
 use Rattle.vb_space.proofs.FreePlaces.{length-free_from}
 use Rattle.vb_tree.specs.declared.tree.Limits.{Limits}
 use Rattle.vb_tree.specs.Trees.{data_pages_of, map_pages_of}

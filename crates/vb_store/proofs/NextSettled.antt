@@ -1,19 +1,18 @@
 -- The next view, once it is the committed one.
-use Rattle.std.proofs.Common.{◌≡◌, ◌≢◌, ℕ, ◌+◌, ◌-◌, ◌<◌, ◌≤◌, Bool, true, false, List, [], length, get_or, map, Option, Some, None, refl, sym, ap, subst, ◌∙◌, arith}
+use Rattle.std.proofs.Common.{◌≡◌, ℕ, ◌+◌, ◌-◌, ◌<◌, ◌≤◌, true, false, List, length, Option, Some, None, refl, sym, ap, subst, ◌∙◌, arith}
 use Rattle.std.specs.Prelude.{Contains, ◌↔◌}
 use Rattle.std.proofs.lemmas.List.{get_or-map, length-map}
 use Rattle.vb_geometry.specs.Layout as geometry
 use Rattle.vb_head.specs.declared.head.Head.{Head}
 use Rattle.vb_head.specs.Heads.{IsInRange}
 use Rattle.vb_index.specs.Indexes.{IndexState}
-use Rattle.vb_index.specs.Nodes.{pages_in}
 use Rattle.vb_journal.specs.declared.commit_stage.Stage.TheVariants.{Rested}
 use Rattle.vb_journal.specs.Plans.{CanCommit, closed_head}
 use Rattle.vb_journal.proofs.Heads.{CanGoOn-start}
 use Rattle.vb_space.specs.declared.users.Users.{Users}
 use Rattle.vb_space.specs.declared.users.Users.TheVariants.{Neither, Committed, Next, Both}
 use Rattle.vb_space.specs.Free.{has_committed, has_next, settled}
-use Rattle.vb_space.specs.Spaces.{DataPlaces, IsCommitted, IsNext, committed, committed_count, next_count, users_of}
+use Rattle.vb_space.specs.Spaces.{DataPlaces, IsCommitted, IsNext, committed, next_count, users_of}
 use Rattle.vb_space.proofs.Counts.{committed-settled}
 use Rattle.vb_store.specs.NextViews.{IsHeadAfter}
 use Rattle.vb_store.specs.Views.{CanView, CanViewNext, IsView, ViewState, places_in, places_of_next}

@@ -25,5 +25,6 @@ pub mod RecoveredStores
 pub mod Runs
 pub mod Sameness
 pub mod Settled
+pub mod SmallViews
 pub mod Surveys
 pub mod Views

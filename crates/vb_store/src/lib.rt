@@ -75,4 +75,6 @@ mod forged_tests;
 #[cfg(test)]
 mod mount_tests;
 #[cfg(test)]
+mod next_tests;
+#[cfg(test)]
 mod tests;

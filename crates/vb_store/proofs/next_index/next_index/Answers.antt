@@ -1,8 +1,6 @@
 use Rattle.std.proofs.Common.{◌≡◌, ◌∙◌, List, Option, All, length, sym, ap, subst}
 use Rattle.vb_index.specs.declared.held.Held.{Held}
 use Rattle.vb_index.specs.Indexes.{IndexState}
-use Rattle.vb_inode.specs.declared.node.Node.{Node}
-use Rattle.vb_tree.specs.declared.tree.Limits.{Limits}
 use Rattle.vb_nodes.specs.Holdings.{held_of}
 use Rattle.vb_plan.specs.Plans.{by_slot, with_held}
 use Rattle.vb_store.specs.NextIndexes.{Fits, nodes_held}

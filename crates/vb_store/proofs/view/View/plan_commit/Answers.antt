@@ -1,9 +1,8 @@
-use Rattle.std.proofs.Common.{◌≡◌, ◌∙◌, [], List, length, sym, subst}
-use Rattle.vb_index.specs.declared.held.Held.{Held}
+use Rattle.std.proofs.Common.{◌≡◌, ◌∙◌, length, sym, subst}
 use Rattle.vb_plan.specs.Following.{CanFollow}
-use Rattle.vb_plan.specs.Plans.{all_held, all_pages, PlanState}
+use Rattle.vb_plan.specs.Plans.{all_held, all_pages}
 use Rattle.vb_store.specs.NextIndexes.{CanIndex}
-use Rattle.vb_store.specs.Views.{HasNoneBegun, ViewState, places_in}
+use Rattle.vb_store.specs.Views.{HasNoneBegun, ViewState}
 use Rattle.vb_store.proofs.NextPlanned.{basis_at, can_index, can_plan, index_begun, index_next, places_begun, planned_count, planned_held, room_begun, view_planned}
 use Rattle.vb_store.proofs.view.View.plan_commit.Goals as goal
 
