@@ -151,6 +151,11 @@ many_steps : (n : ℕ) → n ≤ 32 → n ≤ enough_steps
 unfolding enough_steps
 many_steps n le = omega arith
 
+-- the parents of a slot make the path that leads to it
+pub path-held : (nodes : List Node) (held : List (Option Held)) (slot : ℕ) (one : Held) → IsTable held → IsRooted held → StandForAll nodes held → held_at held slot ≡ Some one → path_in nodes slot ≡ path_to held slot
+path-held nodes held slot one table rooted all holds =
+    (climbs nodes held table rooted all (path_to held slot) enough_steps slot (rooted.leads slot one holds) (many_steps (length (path_to held slot)) (few-parts (path_to held slot) (rooted.shallow slot one holds)))).1
+
 no_part : IsPart [] → ⊥
 unfolding is_part
 no_part h = false≢true h

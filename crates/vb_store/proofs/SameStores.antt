@@ -239,7 +239,7 @@ recovers_from reads head None r none is =
     record { head = head; counts = refl; none = none; settled = ap (λ (x : Recovered). x.head) same; images = ap (λ (x : Recovered). x.images) same }
 recovers_from reads head (Some e) r none is = absurd (cc is)
 
-recovers_as : (reads : ℕ → List ℕ) (choice : Result Head RecoverError) (r : Recovered) → recovered_by reads choice ≡ Ok r → RecoversAs reads choice r
+pub recovers_as : (reads : ℕ → List ℕ) (choice : Result Head RecoverError) (r : Recovered) → recovered_by reads choice ≡ Ok r → RecoversAs reads choice r
 recovers_as reads (Err e) r is = absurd (cc is)
 recovers_as reads (Ok head) r is = recovers_from reads head (journal_refusal reads head) r refl is
 
