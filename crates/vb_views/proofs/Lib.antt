@@ -1,0 +1,10 @@
+pub mod BytesGiven
+pub mod ClaimedPlaces
+pub mod EntriesPlaced
+pub mod MapsTaken
+pub mod MetadataGiven
+pub mod NodesListed
+pub mod PlacesInOrder
+pub mod RestingViews
+pub mod RestsKept
+pub mod TreesGiven

@@ -1,0 +1,10 @@
+// Views on their disk: what a view in memory is to the blocks of its disk at rest, and what is recovered from it.
+#![tactic(auto)]
+
+mod given;
+mod resting;
+
+pub use given::{
+    the_blocks_of_a_view_give_its_metadata, the_nodes_of_a_view_are_the_entries_of_its_tree,
+};
+pub use resting::{a_view_at_rest_is_recovered, a_view_at_rest_stays};
