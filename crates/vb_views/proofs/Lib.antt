@@ -1,10 +1,15 @@
+pub mod BlocksRead
 pub mod BytesGiven
+pub mod BytesRead
 pub mod ClaimedPlaces
 pub mod EntriesPlaced
+pub mod MapsRead
 pub mod MapsTaken
 pub mod MetadataGiven
 pub mod NodesListed
 pub mod PlacesInOrder
 pub mod RestingViews
 pub mod RestsKept
+pub mod SettledViews
 pub mod TreesGiven
+pub mod TreesRead

@@ -3,8 +3,10 @@
 
 mod given;
 mod resting;
+mod settled;
 
 pub use given::{
     the_blocks_of_a_view_give_its_metadata, the_nodes_of_a_view_are_the_entries_of_its_tree,
 };
 pub use resting::{a_view_at_rest_is_recovered, a_view_at_rest_stays};
+pub use settled::{a_recovered_tree_is_that_of_its_view, a_settled_disk_is_at_rest_for_its_view};
