@@ -6,6 +6,8 @@ pub mod EntriesPlaced
 pub mod MapsRead
 pub mod MapsTaken
 pub mod MetadataGiven
+pub mod NextBlocks
+pub mod NextPages
 pub mod NodesListed
 pub mod PlacesInOrder
 pub mod RestingViews
@@ -13,3 +15,4 @@ pub mod RestsKept
 pub mod SettledViews
 pub mod TreesGiven
 pub mod TreesRead
+pub mod ViewsInPlace

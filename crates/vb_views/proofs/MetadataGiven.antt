@@ -73,7 +73,7 @@ below size head index reads is given =
     let nodes = index.nodes in
     let blocks = blocks_at_rest given.images in
     let few : pages_in nodes ≤ (limits_of head).pages = omega (arith, is.can.pages, ap (λ (l : Limits). l.pages) is.can.limits) in
-    let read : nodes_left head.nodes blocks head.nodes [] ≡ Ok (listed 0 nodes) = subst (λ (n : ℕ). nodes_left n blocks n [] ≡ Ok (listed 0 nodes)) is.slots (nodes-listed nodes given.images is.table (λ slot within. given.blocks slot (omega (arith, within, is.slots)))) in
+    let read : nodes_left head.nodes blocks head.nodes [] ≡ Ok (listed 0 nodes) = subst (λ (n : ℕ). nodes_left n blocks n [] ≡ Ok (listed 0 nodes)) is.slots (nodes-listed nodes given.images is.table given.blocks) in
     let places : ℕ → ℕ = λ slot. 0 in
     let takable : (k : ℕ) (held : Held) → held_at nodes k ≡ Some held → IsTakable reads (0 + k) held =
     λ k held there. record {
@@ -103,7 +103,7 @@ metadata-given size head index reads is given =
     let page : (slot : ℕ) → slot < head.nodes → node_image reads b slot ≡ blocks slot = λ slot within. pages_same (node_image reads b) blocks head.nodes images slot within in
     let each : (slot : ℕ) → slot < b.nodes → IsNode b.nodes (node_image reads b slot) = λ slot within.
     subst (λ (n : ℕ). IsNode n (node_image reads b slot)) (is.slots ∙ sym as_many)
-    (subst (IsNode (length nodes)) (sym (page slot (omega (arith, within, as_many)))) (record { node = node_in slot (node_at nodes slot); is = given.blocks slot (omega (arith, within, as_many)) })) in
+    (subst (IsNode (length nodes)) (sym (page slot (omega (arith, within, as_many)))) (record { node = node_in slot (node_at nodes slot); is = given.blocks slot (omega (arith, within, as_many, is.slots)) })) in
     let faultless : journal_fault reads b ≡ None = images_fault-none b.nodes (journal_place b) [] (journal_of reads b) again.none
     (nodes_of_images b.nodes (journal_place b) [] (journal_of reads b) again.none (λ slot. reads (2 + slot)) each) in
     let found : known_below reads b (head_place reads) (block_of reads b) ≡ Ok known =

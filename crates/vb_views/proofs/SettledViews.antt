@@ -132,7 +132,7 @@ settled-rests view head index d s =
       journal = λ i. reads (2 + head.nodes + i);
       rests = subst (λ (h : Head). IsAtRest h (λ slot. reads (2 + slot)) (λ i. reads (2 + h.nodes + i)) d) own s.its.rests;
       blocks = λ slot within.
-          let at = read.each slot within in
+          let at = read.each slot (omega (arith, within, s.fits.slots)) in
           let is : node_read (length nodes) (reads (2 + slot)) ≡ Ok (listed_at read.ns slot) =
           ap (λ (n : ℕ). node_read n (reads (2 + slot))) s.fits.slots ∙ ap (node_read head.nodes) (sym (home_block reads head slot closed)) ∙ at.read in
           is ∙ ap Ok (node-read reads nodes head.nodes slot (block_of reads head slot).page (listed_at read.ns slot) at (like slot));

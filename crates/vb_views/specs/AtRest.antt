@@ -32,6 +32,10 @@ pub record IsViewOf (head : Head) (index : IndexState) : Type 0 where
 abbrev pub IsBlockOf : List (Option Held) → ℕ → List ℕ → Type 0
 IsBlockOf nodes slot page = node_read (length nodes) page ≡ Ok (node_in slot (node_at nodes slot))
 
+-- so is each of these pages, by slot
+abbrev pub AreBlocksOf : List (Option Held) → (ℕ → List ℕ) → Type 0
+AreBlocksOf nodes pages = (slot : ℕ) → slot < length nodes → IsBlockOf nodes slot (pages slot)
+
 -- a page is the map page of this number of a file: it reads as the references that it is for
 abbrev pub IsMapOf : Held → ℕ → List ℕ → Type 0
 IsMapOf held k page = map_read (length (group_at k held.refs)) page ≡ Ok (group_at k held.refs)
@@ -52,11 +56,15 @@ pub record HoldsPagesOf (held : Held) (d : DiskState) : Type 0 where
   pub maps : All (HoldsRef d) held.node.maps
   pub spelled : (k : ℕ) (r : Ref) → slice_get held.node.maps k ≡ Some r → IsMapOf held k (d.cells r.place).first
 
+-- so it is for each slot
+abbrev pub HoldsAllPages : List (Option Held) → DiskState → Type 0
+HoldsAllPages nodes d = (slot : ℕ) (held : Held) → held_at nodes slot ≡ Some held → HoldsPagesOf held d
+
 -- a disk is at rest for the view with this head and this index: the journal is, with the blocks of the view's nodes as
 -- homes, and the places that the view's references name hold its pages. It speaks of candidates alone, whatever is hurt.
 pub record IsAtRestFor (head : Head) (index : IndexState) (d : DiskState) : Type 0 where
   pub homes : ℕ → List ℕ
   pub journal : ℕ → List ℕ
   pub rests : IsAtRest head homes journal d
-  pub blocks : (slot : ℕ) → slot < head.nodes → IsBlockOf index.nodes slot (homes slot)
-  pub holds : (slot : ℕ) (held : Held) → held_at index.nodes slot ≡ Some held → HoldsPagesOf held d
+  pub blocks : AreBlocksOf index.nodes homes
+  pub holds : HoldsAllPages index.nodes d

@@ -1,5 +1,5 @@
 -- What reads of a disk give of a view, and the tree that they have.
-use Rattle.std.specs.Prelude.{◌≡◌, ℕ, ◌<◌, List, [], slice_get, unwrap_or, Option, Some, None, Ok}
+use Rattle.std.specs.Prelude.{◌≡◌, ℕ, List, [], slice_get, unwrap_or, Option, Some, None, Ok}
 use Rattle.std.specs.List.{All, Contains}
 use Rattle.sha2.specs.Sha256.{sha256}
 use Rattle.vb_block.specs.declared.digest.Ref.{Ref}
@@ -13,7 +13,7 @@ use Rattle.vb_journal.specs.Recoveries.{recovery_of}
 use Rattle.vb_journal.specs.Shown.{pages_from}
 use Rattle.vb_store.specs.OneOf.{TreeView}
 use Rattle.vb_tree.specs.declared.tree.TreeEntry.{TreeEntry}
-use Rattle.vb_views.specs.AtRest.{IsBlockOf, IsMapOf}
+use Rattle.vb_views.specs.AtRest.{AreBlocksOf, IsMapOf}
 
 -- reads give a page of the reference's digest
 abbrev pub GivesRef : (ℕ → List ℕ) → Ref → Type 0
@@ -29,7 +29,7 @@ pub record GivesMapsOf (held : Held) (reads : ℕ → List ℕ) : Type 0 where
 pub record GivesBlocks (size : ℕ) (head : Head) (nodes : List (Option Held)) (reads : ℕ → List ℕ) : Type 0 where
   pub images : ℕ → List ℕ
   pub recovery : recovery_of size reads ≡ Ok (record { head = head; images = pages_from images 0 head.nodes })
-  pub blocks : (slot : ℕ) → slot < head.nodes → IsBlockOf nodes slot (images slot)
+  pub blocks : AreBlocksOf nodes images
   pub maps : (slot : ℕ) (held : Held) → held_at nodes slot ≡ Some held → GivesMapsOf held reads
 
 -- reads give the data pages of what a slot holds: each has the digest of its reference

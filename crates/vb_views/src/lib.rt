@@ -1,10 +1,13 @@
-// Views on their disk: what a view in memory is to the blocks of its disk at rest, and what is recovered from it.
+// Views on their disk: what a view in memory is to the blocks of its disk at rest, what is recovered from it, and what a
+// commit makes of it.
 #![tactic(auto)]
 
+mod committing;
 mod given;
 mod resting;
 mod settled;
 
+pub use committing::{a_commit_leads_from_view_to_view, a_plan_leaves_the_next_view};
 pub use given::{
     the_blocks_of_a_view_give_its_metadata, the_nodes_of_a_view_are_the_entries_of_its_tree,
 };

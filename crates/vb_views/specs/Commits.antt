@@ -1,0 +1,42 @@
+-- What a disk has of the committed view and of the next one while a commit goes on.
+use Rattle.std.specs.Prelude.{◌≡◌, ℕ, List, length}
+use Rattle.std.specs.List.{All}
+use Rattle.vb_disk.specs.Cells.{candidates}
+use Rattle.vb_disk.specs.States.{DiskState}
+use Rattle.vb_head.specs.declared.head.Head.{Head}
+use Rattle.vb_index.specs.Contents.{HasTree}
+use Rattle.vb_index.specs.Indexes.{IndexState}
+use Rattle.vb_journal.specs.declared.commit_stage.Stage.{Stage}
+use Rattle.vb_journal.specs.declared.commit_stage.Stage.TheVariants.{Journal, Opening, Homes, Closing, Rested}
+use Rattle.vb_journal.specs.Plans.{closed_head}
+use Rattle.vb_journal.specs.Progress.{new_images}
+use Rattle.vb_plan.specs.declared.plan_page.PlanPage.{PlanPage}
+use Rattle.vb_plan.specs.declared.plan_page.PlanPage.TheVariants.{Data, Map}
+use Rattle.vb_store.specs.Clear.{first_candidates}
+use Rattle.vb_tree.specs.declared.tree.TreeEntry.{TreeEntry}
+use Rattle.vb_views.specs.AtRest.{AreBlocksOf, HoldsAllPages, HoldsRef, IsViewOf}
+use Rattle.vb_views.specs.Reads.{pages_by}
+
+-- every candidate of a planned page's place is that page: one of its digest, or this map page
+abbrev pub HoldsPlanned : DiskState → PlanPage → Type 0
+HoldsPlanned d (Data slot page r) = HoldsRef d r
+HoldsPlanned d (Map place image) = All (λ page. page ≡ image) (candidates (d.cells place))
+
+-- a disk of its size holds all pages of the view with this head, this index and this tree, and these are its blocks,
+-- wherever they stand
+pub record HoldsView (head : Head) (index : IndexState) (blocks : ℕ → List ℕ) (tree : List TreeEntry) (d : DiskState) : Type 0 where
+  pub view : IsViewOf head index
+  pub id : length head.id ≡ 16
+  pub size : d.size ≡ head.blocks
+  pub are : AreBlocksOf index.nodes blocks
+  pub holds : HoldsAllPages index.nodes d
+  pub has : HasTree index.nodes (pages_by (first_candidates d) index.nodes) tree
+
+-- in the midst of a commit a disk holds the committed view while the journal is written, that one and the next one while
+-- the heads are opened, and from then on the next one
+abbrev pub HoldsViewsAt : Head → ℕ → List (List ℕ) → (ℕ → List ℕ) → Stage → IndexState → List TreeEntry → IndexState → List TreeEntry → DiskState → Type 0
+HoldsViewsAt head epoch images homes (Journal next) old tree new after d = HoldsView head old homes tree d
+HoldsViewsAt head epoch images homes (Opening turn) old tree new after d = HoldsView head old homes tree d × HoldsView (closed_head head epoch) new (new_images images homes) after d
+HoldsViewsAt head epoch images homes (Homes next) old tree new after d = HoldsView (closed_head head epoch) new (new_images images homes) after d
+HoldsViewsAt head epoch images homes (Closing turn) old tree new after d = HoldsView (closed_head head epoch) new (new_images images homes) after d
+HoldsViewsAt head epoch images homes Rested old tree new after d = HoldsView (closed_head head epoch) new (new_images images homes) after d
