@@ -10,6 +10,7 @@ pub mod NextBlocks
 pub mod NextPages
 pub mod NodesListed
 pub mod PlacesInOrder
+pub mod ReadsOfViews
 pub mod RestingViews
 pub mod RestsKept
 pub mod SettledViews

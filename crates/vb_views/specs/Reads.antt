@@ -12,6 +12,7 @@ use Rattle.vb_index.specs.Nodes.{held_at, refs_at}
 use Rattle.vb_journal.specs.Recoveries.{recovery_of}
 use Rattle.vb_journal.specs.Shown.{pages_from}
 use Rattle.vb_store.specs.OneOf.{TreeView}
+use Rattle.vb_store.specs.Recovered.{Recovers, recovered}
 use Rattle.vb_tree.specs.declared.tree.TreeEntry.{TreeEntry}
 use Rattle.vb_views.specs.AtRest.{AreBlocksOf, IsMapOf}
 
@@ -56,3 +57,9 @@ GiveCandidates d reads = (place : ℕ) → Contains (candidates (d.cells place))
 -- a view with this head, this index and this tree, as one that may be recovered
 abbrev pub tree_view : Head → IndexState → List TreeEntry → TreeView
 tree_view head index tree = record { metadata = record { head = head; held = index.nodes }; tree = tree }
+
+-- reads of a disk of this size recover one of these views
+pub record RecoverOneOf (views : List TreeView) (size : ℕ) (reads : ℕ → List ℕ) : Type 0 where
+  pub view : TreeView
+  pub listed : Contains views view
+  pub recovers : recovered size reads ≡ Recovers view.metadata.head.epoch view.tree

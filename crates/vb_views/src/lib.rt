@@ -11,5 +11,7 @@ pub use committing::{a_commit_leads_from_view_to_view, a_plan_leaves_the_next_vi
 pub use given::{
     the_blocks_of_a_view_give_its_metadata, the_nodes_of_a_view_are_the_entries_of_its_tree,
 };
-pub use resting::{a_view_at_rest_is_recovered, a_view_at_rest_stays};
+pub use resting::{
+    a_view_at_rest_is_recovered, a_view_at_rest_stays, whichever_candidates_are_read_recover_a_view,
+};
 pub use settled::{a_recovered_tree_is_that_of_its_view, a_settled_disk_is_at_rest_for_its_view};

@@ -1,5 +1,5 @@
 // What is recovered of a view at rest, and what leaves it so.
-ghost use Rattle.std.specs.Prelude.{◌≡◌, ◌≤◌, ℕ, Bool, List};
+ghost use Rattle.std.specs.Prelude.{◌≡◌, ◌≤◌, ℕ, Bool, false, List};
 ghost use Rattle.std.specs.List.{Contains};
 ghost use Rattle.vb_disk.specs.Crashes.{damaged, MayCrashTo};
 ghost use Rattle.vb_disk.specs.States.{synced, written, DiskState, IsDiskState};
@@ -7,13 +7,13 @@ ghost use Rattle.vb_head.specs.declared.head.Head.{Head};
 ghost use Rattle.vb_index.specs.Contents.{HasTree};
 ghost use Rattle.vb_index.specs.Indexes.{IndexState};
 ghost use Rattle.vb_journal.specs.Choices.{IsChoiceOf};
-ghost use Rattle.vb_store.specs.Clear.{first_candidates, next_of, safe_of};
+ghost use Rattle.vb_store.specs.Clear.{first_candidates, last_candidates, next_of, safe_of};
 ghost use Rattle.vb_store.specs.OneOf.{RecoversOneOf, TreeView, ViewOf};
 ghost use Rattle.vb_store.specs.Recovered.{recovered, Recovers};
 ghost use Rattle.vb_store.specs.Views.{data_start, places_in};
 ghost use Rattle.vb_tree.specs.declared.tree.TreeEntry.{TreeEntry};
 ghost use Rattle.vb_views.specs.AtRest.{IsAtRestFor, IsViewOf};
-ghost use Rattle.vb_views.specs.Reads.{pages_by, tree_view, GiveCandidates};
+ghost use Rattle.vb_views.specs.Reads.{pages_by, tree_view, GiveCandidates, RecoverOneOf};
 
 /// Whichever candidate is read of each place of a view at rest, the first ones and the last ones among them, what is
 /// recovered is the view's epoch and the tree of its nodes and its pages; and whatever damage the disk has or gets, it
@@ -34,6 +34,17 @@ pub fn a_view_at_rest_is_recovered()
     ensures alone { (views : List TreeView) (made : Bool) (head : Head) (index : IndexState) (d : DiskState) (tree : List TreeEntry)
         → IsViewOf head index → IsAtRestFor head index d → HasTree index.nodes (pages_by (first_candidates d) index.nodes) tree
         → Contains views (tree_view head index tree) → RecoversOneOf views made d }
+{}
+
+/// Whichever candidate is read of each place of a disk, the first ones and the last ones among them, one of the views
+/// that may be recovered from it is recovered: at rest, at each stage of a commit, and after a crash. It does nothing.
+pub fn whichever_candidates_are_read_recover_a_view()
+    ensures candidates { (views : List TreeView) (d : DiskState) (reads : ℕ → List ℕ) → IsDiskState d → RecoversOneOf views false d
+        → GiveCandidates d reads → RecoverOneOf views d.size reads }
+    ensures first { (views : List TreeView) (d : DiskState) → IsDiskState d → RecoversOneOf views false d
+        → RecoverOneOf views d.size (first_candidates d) }
+    ensures last { (views : List TreeView) (d : DiskState) → IsDiskState d → RecoversOneOf views false d
+        → RecoverOneOf views d.size (last_candidates d) }
 {}
 
 /// A disk stays at rest for a view when any place is damaged, after a sync, after a crash, and in general whichever
