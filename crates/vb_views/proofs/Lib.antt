@@ -17,3 +17,4 @@ pub mod SettledViews
 pub mod TreesGiven
 pub mod TreesRead
 pub mod ViewsInPlace
+pub mod WholeViews

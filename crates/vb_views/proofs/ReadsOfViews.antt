@@ -1,11 +1,11 @@
 -- Whichever candidate is read of each place of a disk, one of the views that may be recovered from it is recovered.
-use Rattle.std.proofs.Common.{◌≡◌, ℕ, ◌≤◌, false, List, [], ◌∷◌, Ok, refl, sym, ap, subst, ◌∙◌, inl, inr}
+use Rattle.std.proofs.Common.{◌≡◌, ℕ, false, List, [], Ok, refl, sym, ap, subst, ◌∙◌, inl, inr}
 use Rattle.std.proofs.lemmas.List.Elements.{All-cons, All-contains, All-nil}
-use Rattle.std.specs.List.{All, Contains}
+use Rattle.std.specs.List.{Contains}
 use Rattle.vb_block.specs.Pages.{IsPage, zero_page}
 use Rattle.vb_disk.specs.declared.cell.Cell.{Cell}
-use Rattle.vb_disk.specs.Cells.{blank_cell, candidates, read_of}
-use Rattle.vb_disk.specs.States.{DiskState, IsDiskState, read_at}
+use Rattle.vb_disk.specs.Cells.{blank_cell, candidates}
+use Rattle.vb_disk.specs.States.{DiskState, IsDiskState}
 use Rattle.vb_journal.specs.Choices.{IsChoiceOf}
 use Rattle.vb_journal.specs.Outcomes.{reads_of}
 use Rattle.vb_journal.proofs.Settled.{read_of-alone}
@@ -13,7 +13,7 @@ use Rattle.vb_journal.proofs.TriedCells.{alone_of}
 use Rattle.vb_store.specs.EmptyStores.{whole_cell}
 use Rattle.vb_store.specs.Metadata.{metadata_of}
 use Rattle.vb_store.specs.OneOf.{RecoversOneOf, ShowsOrRefuses, TreeView}
-use Rattle.vb_store.specs.Recovered.{Recovers, entries_read, placed_in, recovered, recovered_at, recovered_from}
+use Rattle.vb_store.specs.Recovered.{recovered, recovered_at, recovered_from}
 use Rattle.vb_views.specs.Reads.{GiveCandidates, RecoverOneOf}
 
 -- the disk each place of which is what was read

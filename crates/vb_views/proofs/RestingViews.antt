@@ -59,6 +59,23 @@ of-refs P head index slot held is there all = record {
   maps = each_place P held.node.maps (all_first P (places_of held.node.maps) _ (all_held P index.nodes slot held there all));
 }
 
+same_page : (a b : ℕ → List ℕ) (refs : List Ref) (k : ℕ) → All (λ r. b r.place ≡ a r.place) refs → page_at b (slice_get refs k) ≡ page_at a (slice_get refs k)
+same_page a b refs k same = by (slice_get refs k) refl where
+  by : (o : Option Ref) → slice_get refs k ≡ o → page_at b o ≡ page_at a o
+  by None at = refl
+  by (Some r) at = at_slice (λ x. b x.place ≡ a x.place) refs k r same at
+
+-- reads that give the same data pages have the same tree
+pub tree-same : (head : Head) (index : IndexState) (a b : ℕ → List ℕ) (tree : List TreeEntry) → IsViewOf head index → ((slot : ℕ) (held : Held) → held_at index.nodes slot ≡ Some held → All (λ r. b r.place ≡ a r.place) held.refs) → HasTree index.nodes (pages_by a index.nodes) tree → HasTree index.nodes (pages_by b index.nodes) tree
+tree-same head index a b tree is same has = record {
+  is_tree = has.is_tree;
+  shape = has.shape;
+  contents = λ path slot leads k within.
+      let one = slot_holds index.nodes is.table path slot leads in
+      page-held b head index slot k one.0 is one.1 ∙ same_page a b one.0.refs k (same slot one.0 one.1) ∙ sym (page-held a head index slot k one.0 is one.1)
+      ∙ has.contents path slot leads k within;
+}
+
 -- ---- what candidates give
 
 pub picked-first : (d : DiskState) (reads : ℕ → List ℕ) (r : Ref) → GiveCandidates d reads → HoldsRef d r → reads r.place ≡ (d.cells r.place).first
@@ -108,24 +125,12 @@ blocks-picked head index d reads is rests picked = record {
 pub pages-picked : (head : Head) (index : IndexState) (d : DiskState) (reads : ℕ → List ℕ) → IsAtRestFor head index d → GiveCandidates d reads → GivesPages index.nodes reads
 pages-picked head index d reads rests picked slot held there = All-weaker (HoldsRef d) (GivesRef reads) (picked_ref d reads picked) held.refs (rests.holds slot held there).pages
 
-same_page : (d : DiskState) (reads : ℕ → List ℕ) (refs : List Ref) (k : ℕ) → GiveCandidates d reads → All (HoldsRef d) refs → page_at reads (slice_get refs k) ≡ page_at (first_candidates d) (slice_get refs k)
-same_page d reads refs k picked holds = by (slice_get refs k) refl where
-  by : (o : Option Ref) → slice_get refs k ≡ o → page_at reads o ≡ page_at (first_candidates d) o
-  by None at = refl
-  by (Some r) at = picked-first d reads r picked (at_slice (HoldsRef d) refs k r holds at)
-
 -- they have the tree that the first candidates have
 pub tree-picked : (head : Head) (index : IndexState) (d : DiskState) (reads : ℕ → List ℕ) (tree : List TreeEntry) → IsViewOf head index → IsAtRestFor head index d → GiveCandidates d reads → HasTree index.nodes (pages_by (first_candidates d) index.nodes) tree → HasTree index.nodes (pages_by reads index.nodes) tree
-tree-picked head index d reads tree is rests picked has = record {
-  is_tree = has.is_tree;
-  shape = has.shape;
-  contents = λ path slot leads k within.
-      let one = slot_holds index.nodes is.table path slot leads in
-      page-held reads head index slot k one.0 is one.1
-      ∙ same_page d reads one.0.refs k picked (rests.holds slot one.0 one.1).pages
-      ∙ sym (page-held (first_candidates d) head index slot k one.0 is one.1)
-      ∙ has.contents path slot leads k within;
-}
+tree-picked head index d reads tree is rests picked has =
+    tree-same head index (first_candidates d) reads tree is
+    (λ slot held there. All-weaker (HoldsRef d) (λ r. reads r.place ≡ first_candidates d r.place) (λ r holds. picked-first d reads r picked holds) held.refs (rests.holds slot held there).pages)
+    has
 
 -- so its epoch and its tree are recovered
 pub recovered-picked : (head : Head) (index : IndexState) (d : DiskState) (reads : ℕ → List ℕ) (tree : List TreeEntry) → IsViewOf head index → IsAtRestFor head index d → GiveCandidates d reads → HasTree index.nodes (pages_by (first_candidates d) index.nodes) tree → recovered d.size reads ≡ Recovers head.epoch tree

@@ -1,7 +1,8 @@
 -- A disk has the view whose pages it holds, whatever stands in its heads, homes and journal, once these recover to the
 -- view's head and its blocks.
-use Rattle.std.proofs.Common.{◌≡◌, ℕ, ◌+◌, ◌-◌, ◌*◌, ◌<◌, ◌≤◌, Bool, cond, ltb, List, [], slice_get, Option, Some, None, refl, sym, ap, subst, ◌∙◌, arith}
+use Rattle.std.proofs.Common.{◌≡◌, ℕ, ◌+◌, ◌-◌, ◌*◌, ◌<◌, ◌≤◌, Bool, cond, ltb, List, [], Some, refl, sym, ap, subst, ◌∙◌, arith}
 use Rattle.std.proofs.lemmas.Bool.{le-ltb, lt-ltb}
+use Rattle.std.proofs.lemmas.List.Elements.{All-weaker}
 use Rattle.std.specs.List.{Contains}
 use Rattle.vb_block.specs.declared.digest.Ref.{Ref}
 use Rattle.vb_disk.specs.declared.cell.Cell.{Cell}
@@ -13,7 +14,6 @@ use Rattle.vb_index.specs.declared.held.Held.{Held}
 use Rattle.vb_index.specs.Contents.{HasTree}
 use Rattle.vb_index.specs.Indexes.{IndexState}
 use Rattle.vb_index.specs.Nodes.{held_at}
-use Rattle.vb_index.proofs.Growth.{slot_holds}
 use Rattle.vb_journal.specs.declared.commit_stage.Stage.{Stage}
 use Rattle.vb_journal.specs.declared.commit_stage.Stage.TheVariants.{Journal, Opening, Homes, Closing, Rested}
 use Rattle.vb_journal.specs.Plans.{CanFinish, CanGoOn, closed_head}
@@ -29,9 +29,9 @@ use Rattle.vb_store.proofs.OneOfThem.{ViewOf-fewer}
 use Rattle.vb_tree.specs.declared.tree.TreeEntry.{TreeEntry}
 use Rattle.vb_views.specs.AtRest.{HoldsPagesOf, HoldsRef, IsAtRestFor, IsMapOf, IsViewOf}
 use Rattle.vb_views.specs.Commits.{HoldsView, HoldsViewsAt}
-use Rattle.vb_views.specs.Reads.{page_at, pages_by, tree_view}
-use Rattle.vb_views.proofs.RestingViews.{HoldsOfRefs, of-refs, view-at-rest}
-use Rattle.vb_views.proofs.TreesGiven.{at_slice, page-held}
+use Rattle.vb_views.specs.Reads.{pages_by, tree_view}
+use Rattle.vb_views.proofs.RestingViews.{HoldsOfRefs, of-refs, tree-same, view-at-rest}
+use Rattle.vb_views.proofs.TreesGiven.{at_slice}
 
 -- ---- the same disk at rest
 
@@ -94,16 +94,6 @@ held_same head index d homes slot held is there holds =
       spelled = λ k r at. subst (λ (c : Cell). IsMapOf held k c.first) (sym (at_slice (λ x. placed_cell head homes d.cells x.place ≡ d.cells x.place) held.node.maps k r named.maps at)) (holds.spelled k r at);
     }
 
-same_pages : (head : Head) (index : IndexState) (d : DiskState) (homes : ℕ → List ℕ) (slot : ℕ) (held : Held) → IsViewOf head index → held_at index.nodes slot ≡ Some held → (k : ℕ) → page_at (first_candidates (resting_disk d head homes)) (slice_get held.refs k) ≡ page_at (first_candidates d) (slice_get held.refs k)
-unfolding resting_disk
-same_pages head index d homes slot held is there k = by (slice_get held.refs k) refl where
-  named : HoldsOfRefs (λ p. placed_cell head homes d.cells p ≡ d.cells p) held
-  named = named_same head index d homes slot held is there
-
-  by : (o : Option Ref) → slice_get held.refs k ≡ o → page_at (first_candidates (resting_disk d head homes)) o ≡ page_at (first_candidates d) o
-  by None at = refl
-  by (Some r) at = ap (λ (c : Cell). c.first) (at_slice (λ x. placed_cell head homes d.cells x.place ≡ d.cells x.place) held.refs k r named.pages at)
-
 -- ---- the view
 
 rests_there : (head : Head) (index : IndexState) (homes : ℕ → List ℕ) (d : DiskState) (tree : List TreeEntry) → HoldsView head index homes tree d → IsAtRestFor head index (resting_disk d head homes)
@@ -124,16 +114,11 @@ rests_there head index homes d tree v = record {
 }
 
 tree_there : (head : Head) (index : IndexState) (homes : ℕ → List ℕ) (d : DiskState) (tree : List TreeEntry) → HoldsView head index homes tree d → HasTree index.nodes (pages_by (first_candidates (resting_disk d head homes)) index.nodes) tree
-tree_there head index homes d tree v = record {
-  is_tree = v.has.is_tree;
-  shape = v.has.shape;
-  contents = λ path slot leads k within.
-      let one = slot_holds index.nodes v.view.table path slot leads in
-      page-held (first_candidates (resting_disk d head homes)) head index slot k one.0 v.view one.1
-      ∙ same_pages head index d homes slot one.0 v.view one.1 k
-      ∙ sym (page-held (first_candidates d) head index slot k one.0 v.view one.1)
-      ∙ v.has.contents path slot leads k within;
-}
+unfolding resting_disk
+tree_there head index homes d tree v =
+    tree-same head index (first_candidates d) (first_candidates (resting_disk d head homes)) tree v.view
+    (λ slot held there. All-weaker (λ r. placed_cell head homes d.cells r.place ≡ d.cells r.place) (λ r. first_candidates (resting_disk d head homes) r.place ≡ first_candidates d r.place) (λ r same. ap (λ (c : Cell). c.first) same) held.refs (named_same head index d homes slot held v.view there).pages)
+    v.has
 
 -- a disk that holds the pages of a view has that view, by its head and its blocks
 pub view-in-place : (head : Head) (index : IndexState) (homes : ℕ → List ℕ) (d : DiskState) (tree : List TreeEntry) → HoldsView head index homes tree d → ViewOf d (tree_view head index tree) head homes

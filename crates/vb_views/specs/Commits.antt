@@ -1,6 +1,6 @@
 -- What a disk has of the committed view and of the next one while a commit goes on.
-use Rattle.std.specs.Prelude.{◌≡◌, ℕ, List, length}
-use Rattle.std.specs.List.{All}
+use Rattle.std.specs.Prelude.{◌≡◌, ◌⊎◌, ℕ, List, [], length, None}
+use Rattle.std.specs.List.{All, Contains}
 use Rattle.vb_disk.specs.Cells.{candidates}
 use Rattle.vb_disk.specs.States.{DiskState}
 use Rattle.vb_head.specs.declared.head.Head.{Head}
@@ -13,6 +13,9 @@ use Rattle.vb_journal.specs.Progress.{new_images}
 use Rattle.vb_plan.specs.declared.plan_page.PlanPage.{PlanPage}
 use Rattle.vb_plan.specs.declared.plan_page.PlanPage.TheVariants.{Data, Map}
 use Rattle.vb_store.specs.Clear.{first_candidates}
+use Rattle.vb_store.specs.Recovered.{Recovers}
+use Rattle.vb_store.specs.RecoveredStores.{recovered_on}
+use Rattle.vb_store.specs.Views.{places_in}
 use Rattle.vb_tree.specs.declared.tree.TreeEntry.{TreeEntry}
 use Rattle.vb_views.specs.AtRest.{AreBlocksOf, HoldsAllPages, HoldsRef, IsViewOf}
 use Rattle.vb_views.specs.Reads.{pages_by}
@@ -40,3 +43,26 @@ HoldsViewsAt head epoch images homes (Opening turn) old tree new after d = Holds
 HoldsViewsAt head epoch images homes (Homes next) old tree new after d = HoldsView (closed_head head epoch) new (new_images images homes) after d
 HoldsViewsAt head epoch images homes (Closing turn) old tree new after d = HoldsView (closed_head head epoch) new (new_images images homes) after d
 HoldsViewsAt head epoch images homes Rested old tree new after d = HoldsView (closed_head head epoch) new (new_images images homes) after d
+
+-- ---- places that are whole
+
+-- no place that a view's references name is hurt, and each has one candidate
+abbrev pub HasWholePlaces : IndexState → DiskState → Type 0
+HasWholePlaces index d = (place : ℕ) → Contains (places_in index.nodes) place → ((d.cells place).hurt ≡ None) × ((d.cells place).later ≡ [])
+
+-- so it is at each stage of a commit for the views that may be recovered then
+abbrev pub HasWholePlacesAt : Stage → IndexState → IndexState → DiskState → Type 0
+HasWholePlacesAt (Journal next) old new d = HasWholePlaces old d
+HasWholePlacesAt (Opening turn) old new d = HasWholePlaces old d × HasWholePlaces new d
+HasWholePlacesAt (Homes next) old new d = HasWholePlaces new d
+HasWholePlacesAt (Closing turn) old new d = HasWholePlaces new d
+HasWholePlacesAt Rested old new d = HasWholePlaces new d
+
+-- what reads give recovers the committed epoch and tree while the journal is written, these or the next ones while the
+-- heads are opened, and from then on the next ones
+abbrev pub RecoversAt : Stage → ℕ → List TreeEntry → ℕ → List TreeEntry → DiskState → Type 0
+RecoversAt (Journal next) epoch tree later after d = recovered_on d ≡ Recovers epoch tree
+RecoversAt (Opening turn) epoch tree later after d = (recovered_on d ≡ Recovers epoch tree) ⊎ (recovered_on d ≡ Recovers later after)
+RecoversAt (Homes next) epoch tree later after d = recovered_on d ≡ Recovers later after
+RecoversAt (Closing turn) epoch tree later after d = recovered_on d ≡ Recovers later after
+RecoversAt Rested epoch tree later after d = recovered_on d ≡ Recovers later after

@@ -1,7 +1,8 @@
 // What a plan makes of a view, and what a disk has of both views while the next one is committed.
-ghost use Rattle.std.specs.Prelude.{◌≡◌, ℕ, Bool, List};
+ghost use Rattle.std.specs.Prelude.{◌≡◌, ℕ, Bool, List, []};
 ghost use Rattle.std.specs.List.{All, Contains};
-ghost use Rattle.vb_disk.specs.States.{DiskState};
+ghost use Rattle.vb_disk.specs.Crashes.{MayCrashTo};
+ghost use Rattle.vb_disk.specs.States.{DiskState, IsDiskState};
 ghost use Rattle.vb_head.specs.declared.head.Head.{Head};
 ghost use Rattle.vb_index.specs.Contents.{HasTree};
 ghost use Rattle.vb_index.specs.Indexes.{IndexState};
@@ -10,15 +11,17 @@ ghost use Rattle.vb_inode.specs.declared.next_view.NextNode.{NextNode};
 ghost use Rattle.vb_journal.specs.declared.commit_stage.Stage.{Stage};
 ghost use Rattle.vb_journal.specs.declared.commit_stage.Stage.TheVariants.{Rested};
 ghost use Rattle.vb_journal.specs.Plans.{closed_head, CanFinish, CanGoOn};
-ghost use Rattle.vb_journal.specs.Progress.{new_images, IsCommitting};
+ghost use Rattle.vb_journal.specs.Progress.{new_images, IsCommitting, IsUnharmed};
 ghost use Rattle.vb_plan.specs.Conditions.{CanPlan, CanSeal};
 ghost use Rattle.vb_plan.specs.Laws.{slots_next};
 ghost use Rattle.vb_plan.specs.Plans.{plan_of, Basis};
 ghost use Rattle.vb_store.specs.Clear.{first_candidates};
 ghost use Rattle.vb_store.specs.OneOf.{HasViewsAt, RecoversOneOf, TreeView, ViewOf};
+ghost use Rattle.vb_store.specs.Recovered.{Recovers};
+ghost use Rattle.vb_store.specs.RecoveredStores.{recovered_on};
 ghost use Rattle.vb_tree.specs.declared.tree.TreeEntry.{TreeEntry};
 ghost use Rattle.vb_views.specs.AtRest.{AreBlocksOf, HoldsAllPages, IsAtRestFor, IsViewOf};
-ghost use Rattle.vb_views.specs.Commits.{HoldsPlanned, HoldsView, HoldsViewsAt};
+ghost use Rattle.vb_views.specs.Commits.{HasWholePlaces, HasWholePlacesAt, HoldsPlanned, HoldsView, HoldsViewsAt, RecoversAt};
 ghost use Rattle.vb_views.specs.Reads.{pages_by, tree_view};
 
 /// The blocks of the next nodes are those of the committed ones with the plan's images put over them; and where the
@@ -54,4 +57,17 @@ pub fn a_commit_leads_from_view_to_view()
     ensures rested { (head : Head) (epoch : ℕ) (images : List (List ℕ)) (homes journal : ℕ → List ℕ) (d : DiskState) (index : IndexState)
         (tree : List TreeEntry) → CanFinish head epoch images → IsCommitting head epoch images homes journal Rested d
         → HoldsView (closed_head head epoch) index (new_images images homes) tree d → IsAtRestFor (closed_head head epoch) index d }
+{}
+
+/// Where nothing that counts is hurt, each crash recovers a tree: at rest the view's, and while a commit goes on that of
+/// a view that it may be then, exactly. It does nothing.
+pub fn a_crash_of_whole_places_recovers_a_view()
+    ensures rest { (head : Head) (index : IndexState) (d new : DiskState) (tree : List TreeEntry) → IsViewOf head index → IsDiskState d
+        → IsAtRestFor head index d → HasTree index.nodes (pages_by (first_candidates d) index.nodes) tree → IsUnharmed head [] Rested d
+        → HasWholePlaces index d → MayCrashTo d new → recovered_on new ≡ Recovers head.epoch tree }
+    ensures commit { (head : Head) (epoch : ℕ) (images : List (List ℕ)) (homes journal : ℕ → List ℕ) (stage : Stage) (d new : DiskState)
+        (old : IndexState) (tree : List TreeEntry) (index : IndexState) (after : List TreeEntry) → CanGoOn head epoch images stage
+        → IsDiskState d → IsCommitting head epoch images homes journal stage d → IsUnharmed head images stage d
+        → HoldsViewsAt head epoch images homes stage old tree index after d → HasWholePlacesAt stage old index d → MayCrashTo d new
+        → RecoversAt stage head.epoch tree epoch after new }
 {}

@@ -7,7 +7,10 @@ mod given;
 mod resting;
 mod settled;
 
-pub use committing::{a_commit_leads_from_view_to_view, a_plan_leaves_the_next_view};
+pub use committing::{
+    a_commit_leads_from_view_to_view, a_crash_of_whole_places_recovers_a_view,
+    a_plan_leaves_the_next_view,
+};
 pub use given::{
     the_blocks_of_a_view_give_its_metadata, the_nodes_of_a_view_are_the_entries_of_its_tree,
 };
