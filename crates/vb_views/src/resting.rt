@@ -17,7 +17,7 @@ ghost use Rattle.vb_views.specs.Reads.{pages_by, tree_view, GiveCandidates, Reco
 
 /// Whichever candidate is read of each place of a view at rest, the first ones and the last ones among them, what is
 /// recovered is the view's epoch and the tree of its nodes and its pages; and whatever damage the disk has or gets, it
-/// recovers that view alone, or is found to be damaged. It does nothing.
+/// recovers that view alone, or is refused for a place that is hurt. It does nothing.
 pub fn a_view_at_rest_is_recovered()
     ensures candidates { (head : Head) (index : IndexState) (d : DiskState) (reads : ℕ → List ℕ) (tree : List TreeEntry)
         → IsViewOf head index → IsAtRestFor head index d → HasTree index.nodes (pages_by (first_candidates d) index.nodes) tree
