@@ -16,5 +16,6 @@ pub mod RestsKept
 pub mod SettledViews
 pub mod TreesGiven
 pub mod TreesRead
+pub mod ViewsHeld
 pub mod ViewsInPlace
 pub mod WholeViews

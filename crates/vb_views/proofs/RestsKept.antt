@@ -33,12 +33,12 @@ first_one : (cell : Cell) → Contains (candidates cell) cell.first
 first_one cell = (0, omega arith, refl)
 
 -- where each was one page, each is that page
-only_first : (old new : Cell) → HasNoMore new old → All (λ page. page ≡ old.first) (candidates old) → new.first ≡ old.first
-only_first old new fewer same = All-contains (λ page. page ≡ old.first) (candidates old) new.first same (fewer new.first (first_one new))
+pub only-first : (old new : Cell) → HasNoMore new old → All (λ page. page ≡ old.first) (candidates old) → new.first ≡ old.first
+only-first old new fewer same = All-contains (λ page. page ≡ old.first) (candidates old) new.first same (fewer new.first (first_one new))
 
 holds_fewer : (old new : Cell) (digest : List ℕ) → HasNoMore new old → HoldsOnly old digest → HoldsOnly new digest
 holds_fewer old new digest fewer holds =
-    let first : new.first ≡ old.first = only_first old new fewer holds.same in
+    let first : new.first ≡ old.first = only-first old new fewer holds.same in
     record {
       same = All-weaker (Contains (candidates new)) (λ page. page ≡ new.first) (λ page among. All-contains (λ x. x ≡ old.first) (candidates old) page holds.same (fewer page among) ∙ sym first) (candidates new) (All-contains_itself (candidates new));
       due = ap sha256 first ∙ holds.due;
@@ -55,15 +55,15 @@ holds_kept old new (r ∷ rs) fewer holds =
     All-cons (HoldsRef new) r rs (holds_fewer (old.cells r.place) (new.cells r.place) r.digest (All-head Fewer r rs fewer) (All-head (HoldsRef old) r rs holds))
     (holds_kept old new rs (All-tail Fewer r rs fewer) (All-tail (HoldsRef old) r rs holds))
 
-held_kept : (head : Head) (index : IndexState) (old new : DiskState) (slot : ℕ) (held : Held) → IsViewOf head index → held_at index.nodes slot ≡ Some held → KeepsPlaces index old new → HoldsPagesOf held old → HoldsPagesOf held new
-held_kept head index old new slot held is there keeps holds =
+pub held-kept : (head : Head) (index : IndexState) (old new : DiskState) (slot : ℕ) (held : Held) → IsViewOf head index → held_at index.nodes slot ≡ Some held → KeepsPlaces index old new → HoldsPagesOf held old → HoldsPagesOf held new
+held-kept head index old new slot held is there keeps holds =
     let Fewer : Ref → Type 0 = λ r. HasNoMore (new.cells r.place) (old.cells r.place) in
     let named = of-refs (λ p. HasNoMore (new.cells p) (old.cells p)) head index slot held is there
     (All-weaker (Contains (places_in index.nodes)) (λ p. HasNoMore (new.cells p) (old.cells p)) keeps (places_in index.nodes) (All-contains_itself (places_in index.nodes))) in
     record {
       pages = holds_kept old new held.refs named.pages holds.pages;
       maps = holds_kept old new held.node.maps named.maps holds.maps;
-      spelled = λ k r at. subst (IsMapOf held k) (sym (only_first (old.cells r.place) (new.cells r.place) (at_slice Fewer held.node.maps k r named.maps at) (at_slice (HoldsRef old) held.node.maps k r holds.maps at).same)) (holds.spelled k r at);
+      spelled = λ k r at. subst (IsMapOf held k) (sym (only-first (old.cells r.place) (new.cells r.place) (at_slice Fewer held.node.maps k r named.maps at) (at_slice (HoldsRef old) held.node.maps k r holds.maps at).same)) (holds.spelled k r at);
     }
 
 -- a store at rest whose places of data got no candidate more is at rest for the same view
@@ -73,7 +73,7 @@ rests-fewer head index old new rests is journal keeps = record {
   journal = rests.journal;
   rests = journal;
   blocks = rests.blocks;
-  holds = λ slot held there. held_kept head index old new slot held is there keeps (rests.holds slot held there);
+  holds = λ slot held there. held-kept head index old new slot held is there keeps (rests.holds slot held there);
 }
 
 -- ---- damage and syncs
@@ -121,7 +121,7 @@ again_at : (cell : Cell) (page : List ℕ) (b : Bool) → page ≡ cell.first �
 again_at cell page true same found among = written_again cell found (subst (λ (p : List ℕ). Contains (candidates (written_cell cell p)) found) same among)
 again_at cell page false same found among = among
 
-at_place : (d : DiskState) (p place : ℕ) (page : List ℕ) → page ≡ (d.cells place).first → HasNoMore ((written d place page).cells p) (d.cells p)
+pub at_place : (d : DiskState) (p place : ℕ) (page : List ℕ) → page ≡ (d.cells place).first → HasNoMore ((written d place page).cells p) (d.cells p)
 at_place d p place page same = by (eqb p place) refl where
   by : (b : Bool) → eqb p place ≡ b → HasNoMore (cond b (written_cell (d.cells p) page) (d.cells p)) (d.cells p)
   by true here found among = again_at (d.cells p) page true (same ∙ ap (λ (q : ℕ). (d.cells q).first) (sym (eqb-true p place here))) found among

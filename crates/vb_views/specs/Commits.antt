@@ -1,6 +1,7 @@
 -- What a disk has of the committed view and of the next one while a commit goes on.
 use Rattle.std.specs.Prelude.{◌≡◌, ◌⊎◌, ℕ, List, [], length, None}
 use Rattle.std.specs.List.{All, Contains}
+use Rattle.sha2.specs.Sha256.{sha256}
 use Rattle.vb_disk.specs.Cells.{candidates}
 use Rattle.vb_disk.specs.States.{DiskState}
 use Rattle.vb_head.specs.declared.head.Head.{Head}
@@ -12,7 +13,8 @@ use Rattle.vb_journal.specs.Plans.{closed_head}
 use Rattle.vb_journal.specs.Progress.{new_images}
 use Rattle.vb_plan.specs.declared.plan_page.PlanPage.{PlanPage}
 use Rattle.vb_plan.specs.declared.plan_page.PlanPage.TheVariants.{Data, Map}
-use Rattle.vb_store.specs.Clear.{first_candidates}
+use Rattle.vb_plan.specs.Laws.{place_of}
+use Rattle.vb_store.specs.Clear.{first_candidates, last_candidates}
 use Rattle.vb_store.specs.Recovered.{Recovers}
 use Rattle.vb_store.specs.RecoveredStores.{recovered_on}
 use Rattle.vb_store.specs.Views.{places_in}
@@ -66,3 +68,14 @@ RecoversAt (Opening turn) epoch tree later after d = (recovered_on d ≡ Recover
 RecoversAt (Homes next) epoch tree later after d = recovered_on d ≡ Recovers later after
 RecoversAt (Closing turn) epoch tree later after d = recovered_on d ≡ Recovers later after
 RecoversAt Rested epoch tree later after d = recovered_on d ≡ Recovers later after
+
+-- ---- pages that are placed
+
+-- a page is the planned one: it has the digest, or is the map page
+abbrev pub IsPageOf : PlanPage → List ℕ → Type 0
+IsPageOf (Data slot number r) page = sha256 page ≡ r.digest
+IsPageOf (Map place image) page = page ≡ image
+
+-- the last candidate of a planned page's place is that page: it was written there, and may not be synced yet
+abbrev pub HasPlaced : DiskState → PlanPage → Type 0
+HasPlaced d p = IsPageOf p (last_candidates d (place_of p))

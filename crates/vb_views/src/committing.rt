@@ -1,8 +1,9 @@
 // What a plan makes of a view, and what a disk has of both views while the next one is committed.
 ghost use Rattle.std.specs.Prelude.{◌≡◌, ℕ, Bool, List, []};
 ghost use Rattle.std.specs.List.{All, Contains};
+ghost use Rattle.vb_disk.specs.Cells.{candidates};
 ghost use Rattle.vb_disk.specs.Crashes.{MayCrashTo};
-ghost use Rattle.vb_disk.specs.States.{DiskState, IsDiskState};
+ghost use Rattle.vb_disk.specs.States.{synced, written, DiskState, IsDiskState};
 ghost use Rattle.vb_head.specs.declared.head.Head.{Head};
 ghost use Rattle.vb_index.specs.Contents.{HasTree};
 ghost use Rattle.vb_index.specs.Indexes.{IndexState};
@@ -12,16 +13,18 @@ ghost use Rattle.vb_journal.specs.declared.commit_stage.Stage.{Stage};
 ghost use Rattle.vb_journal.specs.declared.commit_stage.Stage.TheVariants.{Rested};
 ghost use Rattle.vb_journal.specs.Plans.{closed_head, CanFinish, CanGoOn};
 ghost use Rattle.vb_journal.specs.Progress.{new_images, IsCommitting, IsUnharmed};
+ghost use Rattle.vb_plan.specs.declared.plan_page.PlanPage.{PlanPage};
 ghost use Rattle.vb_plan.specs.Conditions.{CanPlan, CanSeal};
-ghost use Rattle.vb_plan.specs.Laws.{slots_next};
+ghost use Rattle.vb_plan.specs.Laws.{place_of, slots_next};
 ghost use Rattle.vb_plan.specs.Plans.{plan_of, Basis};
 ghost use Rattle.vb_store.specs.Clear.{first_candidates};
-ghost use Rattle.vb_store.specs.OneOf.{HasViewsAt, RecoversOneOf, TreeView, ViewOf};
+ghost use Rattle.vb_store.specs.OneOf.{HasNoMoreFrom, HasViewsAt, RecoversOneOf, TreeView, ViewOf};
 ghost use Rattle.vb_store.specs.Recovered.{Recovers};
 ghost use Rattle.vb_store.specs.RecoveredStores.{recovered_on};
+ghost use Rattle.vb_store.specs.Views.{data_start, places_in};
 ghost use Rattle.vb_tree.specs.declared.tree.TreeEntry.{TreeEntry};
 ghost use Rattle.vb_views.specs.AtRest.{AreBlocksOf, HoldsAllPages, IsAtRestFor, IsViewOf};
-ghost use Rattle.vb_views.specs.Commits.{HasWholePlaces, HasWholePlacesAt, HoldsPlanned, HoldsView, HoldsViewsAt, RecoversAt};
+ghost use Rattle.vb_views.specs.Commits.{HasPlaced, HasWholePlaces, HasWholePlacesAt, HoldsPlanned, HoldsView, HoldsViewsAt, IsPageOf, RecoversAt};
 ghost use Rattle.vb_views.specs.Reads.{pages_by, tree_view};
 
 /// The blocks of the next nodes are those of the committed ones with the plan's images put over them; and where the
@@ -57,6 +60,28 @@ pub fn a_commit_leads_from_view_to_view()
     ensures rested { (head : Head) (epoch : ℕ) (images : List (List ℕ)) (homes journal : ℕ → List ℕ) (d : DiskState) (index : IndexState)
         (tree : List TreeEntry) → CanFinish head epoch images → IsCommitting head epoch images homes journal Rested d
         → HoldsView (closed_head head epoch) index (new_images images homes) tree d → IsAtRestFor (closed_head head epoch) index d }
+{}
+
+/// A view is held as long as no place of data gets a candidate more, and so after damage, a sync, a crash and the calls
+/// of a commit's journal; and when a page is written to a place that the view doesn't name, or to its own place again.
+/// It does nothing.
+pub fn a_view_that_is_held_stays()
+    ensures fewer { (head : Head) (index : IndexState) (blocks : ℕ → List ℕ) (tree : List TreeEntry) (old new : DiskState)
+        → HasNoMoreFrom (data_start head) new old → HoldsView head index blocks tree old → HoldsView head index blocks tree new }
+    ensures write { (head : Head) (index : IndexState) (blocks : ℕ → List ℕ) (tree : List TreeEntry) (d : DiskState) (place : ℕ) (page : List ℕ)
+        → (Contains (places_in index.nodes) place → ⊥) → HoldsView head index blocks tree d → HoldsView head index blocks tree (written d place page) }
+    ensures again { (head : Head) (index : IndexState) (blocks : ℕ → List ℕ) (tree : List TreeEntry) (d : DiskState) (place : ℕ) (page : List ℕ)
+        → page ≡ (d.cells place).first → HoldsView head index blocks tree d → HoldsView head index blocks tree (written d place page) }
+{}
+
+/// A planned page is placed by its write, stays so while no other candidate comes to its place, and is held once it is
+/// synced. It does nothing.
+pub fn a_placed_page_is_held_once_it_is_synced()
+    ensures write { (d : DiskState) (planned : PlanPage) (page : List ℕ) → IsPageOf planned page
+        → HasPlaced (written d (place_of planned) page) planned }
+    ensures stays { (old new : DiskState) (planned : PlanPage) → candidates (new.cells (place_of planned)) ≡ candidates (old.cells (place_of planned))
+        → HasPlaced old planned → HasPlaced new planned }
+    ensures sync { (d : DiskState) (planned : PlanPage) → HasPlaced d planned → HoldsPlanned (synced d) planned }
 {}
 
 /// Where nothing that counts is hurt, each crash recovers a tree: at rest the view's, and while a commit goes on that of

@@ -9,7 +9,8 @@ mod settled;
 
 pub use committing::{
     a_commit_leads_from_view_to_view, a_crash_of_whole_places_recovers_a_view,
-    a_plan_leaves_the_next_view,
+    a_placed_page_is_held_once_it_is_synced, a_plan_leaves_the_next_view,
+    a_view_that_is_held_stays,
 };
 pub use given::{
     the_blocks_of_a_view_give_its_metadata, the_nodes_of_a_view_are_the_entries_of_its_tree,
