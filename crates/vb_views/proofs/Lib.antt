@@ -2,6 +2,7 @@ pub mod BlocksRead
 pub mod BytesGiven
 pub mod BytesRead
 pub mod ClaimedPlaces
+pub mod ClearViews
 pub mod EntriesPlaced
 pub mod MapsRead
 pub mod MapsTaken

@@ -17,7 +17,7 @@ ghost use Rattle.vb_plan.specs.declared.plan_page.PlanPage.{PlanPage};
 ghost use Rattle.vb_plan.specs.Conditions.{CanPlan, CanSeal};
 ghost use Rattle.vb_plan.specs.Laws.{place_of, slots_next};
 ghost use Rattle.vb_plan.specs.Plans.{plan_of, Basis};
-ghost use Rattle.vb_store.specs.Clear.{first_candidates};
+ghost use Rattle.vb_store.specs.Clear.{first_candidates, IsClear};
 ghost use Rattle.vb_store.specs.OneOf.{HasNoMoreFrom, HasViewsAt, RecoversOneOf, TreeView, ViewOf};
 ghost use Rattle.vb_store.specs.Recovered.{Recovers};
 ghost use Rattle.vb_store.specs.RecoveredStores.{recovered_on};
@@ -85,7 +85,7 @@ pub fn a_placed_page_is_held_once_it_is_synced()
 {}
 
 /// Where nothing that counts is hurt, each crash recovers a tree: at rest the view's, and while a commit goes on that of
-/// a view that it may be then, exactly. It does nothing.
+/// a view that it may be then, exactly; and the disk is clear, whatever is hurt elsewhere. It does nothing.
 pub fn a_crash_of_whole_places_recovers_a_view()
     ensures rest { (head : Head) (index : IndexState) (d new : DiskState) (tree : List TreeEntry) → IsViewOf head index → IsDiskState d
         → IsAtRestFor head index d → HasTree index.nodes (pages_by (first_candidates d) index.nodes) tree → IsUnharmed head [] Rested d
@@ -95,4 +95,11 @@ pub fn a_crash_of_whole_places_recovers_a_view()
         → IsDiskState d → IsCommitting head epoch images homes journal stage d → IsUnharmed head images stage d
         → HoldsViewsAt head epoch images homes stage old tree index after d → HasWholePlacesAt stage old index d → MayCrashTo d new
         → RecoversAt stage head.epoch tree epoch after new }
+    ensures clear_rest { (head : Head) (index : IndexState) (d : DiskState) (tree : List TreeEntry) → IsViewOf head index → IsDiskState d
+        → IsAtRestFor head index d → HasTree index.nodes (pages_by (first_candidates d) index.nodes) tree → IsUnharmed head [] Rested d
+        → HasWholePlaces index d → IsClear d }
+    ensures clear_commit { (head : Head) (epoch : ℕ) (images : List (List ℕ)) (homes journal : ℕ → List ℕ) (stage : Stage) (d : DiskState)
+        (old : IndexState) (tree : List TreeEntry) (index : IndexState) (after : List TreeEntry) → CanGoOn head epoch images stage
+        → IsDiskState d → IsCommitting head epoch images homes journal stage d → IsUnharmed head images stage d
+        → HoldsViewsAt head epoch images homes stage old tree index after d → HasWholePlacesAt stage old index d → IsClear d }
 {}
