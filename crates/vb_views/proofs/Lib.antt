@@ -3,6 +3,7 @@ pub mod BytesGiven
 pub mod BytesRead
 pub mod ClaimedPlaces
 pub mod ClearViews
+pub mod EmptyAtRest
 pub mod EntriesPlaced
 pub mod MapsRead
 pub mod MapsTaken

@@ -18,4 +18,7 @@ pub use given::{
 pub use resting::{
     a_view_at_rest_is_recovered, a_view_at_rest_stays, whichever_candidates_are_read_recover_a_view,
 };
-pub use settled::{a_recovered_tree_is_that_of_its_view, a_settled_disk_is_at_rest_for_its_view};
+pub use settled::{
+    a_new_store_is_at_rest_for_the_empty_view, a_recovered_tree_is_that_of_its_view,
+    a_settled_disk_is_at_rest_for_its_view,
+};
