@@ -19,7 +19,7 @@ use Rattle.vb_plan.specs.Laws.{block_next, changed_slots, slots_next}
 use Rattle.vb_plan.specs.Plans.{Basis, all_held, node_at, node_in, plan_of, same_in_slot}
 use Rattle.vb_plan.proofs.ChangedSlots.{Rises, filtered_rise, images_of_changed, passes_in}
 use Rattle.vb_plan.proofs.SameNodes.{same_in_slot-Decides}
-use Rattle.vb_plan.proofs.Sealed.{next_of_store}
+use Rattle.vb_plan.proofs.Sealed.{node_next_given}
 use Rattle.vb_plan.proofs.Slots.{length-by_slot}
 use Rattle.vb_store.proofs.SameJournals.{not_false}
 use Rattle.vb_store.proofs.SlotsRead.{slot_read}
@@ -55,7 +55,7 @@ in_all P (y ∷ ys) x all (inl same) = subst P (sym same) (All-head P y ys all)
 in_all P (y ∷ ys) x all (inr is) = in_all P ys x (All-tail P y ys all) is
 
 next_read : (basis : Basis) (next : List NextNode) (slot : ℕ) → CanPlan basis next → CanSeal basis next → slot < length basis.nodes → node_read (length basis.nodes) (block_next basis next slot) ≡ Ok (node_in slot (node_at (slots_next basis next) slot))
-next_read basis next slot can seal within = node_page_read (length basis.nodes) (node_in slot (node_at (slots_next basis next) slot)) seal.few (next_of_store basis next slot can seal within)
+next_read basis next slot can seal within = node_page_read (length basis.nodes) (node_in slot (node_at (slots_next basis next) slot)) seal.few (node_next_given basis next can.nodes seal slot within)
 
 -- the slot of the node in a slot
 own_of : (slot : ℕ) (o : Option Node) → ((node : Node) → o ≡ Some node → node.slot ≡ slot) → (node_in slot o).slot ≡ slot
