@@ -1,0 +1,6 @@
+pub mod PageCells
+pub mod JournalCalls
+pub mod WaysKept
+pub mod WayClauses
+pub mod WayLaws
+pub mod GivenPages
