@@ -4,3 +4,4 @@ pub mod WaysKept
 pub mod WayClauses
 pub mod WayLaws
 pub mod GivenPages
+pub mod PlannedPages

@@ -6,6 +6,7 @@ ghost use Rattle.vb_commit.specs.Steps.{WaySteps};
 ghost use Rattle.vb_commit.specs.Ways.{begun_way, due_in, first_call, first_of, IsDataPage, IsGiven};
 ghost use Rattle.vb_disk.specs.States.{DiskState};
 ghost use Rattle.vb_disk.specs.Within.{CrashesWithin};
+ghost use Rattle.vb_head.specs.Heads.{IsInRange};
 ghost use Rattle.vb_journal.specs.Commits.{epoch_of, head_of, images_of, stage_of};
 ghost use Rattle.vb_journal.specs.Plans.{closed_head, CanCommit};
 ghost use Rattle.vb_journal.specs.Progress.{IsAtRest};
@@ -105,7 +106,8 @@ impl Committing {
 
     /// The head that it writes last: the one with which the store is at rest again.
     pub fn head(&self) -> Head
-        ensures { result ≡ closed_head self.now.head self.now.epoch }
+        ensures head { result ≡ closed_head self.now.head self.now.epoch }
+        ensures range { IsInRange result }
     {
         self.commit.closed_head()
     }

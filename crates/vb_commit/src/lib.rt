@@ -6,6 +6,7 @@ mod due_page;
 mod laws;
 mod pages_left;
 mod placing;
+mod starting;
 
 pub use committing::Committing;
 pub use due_page::DuePage;
