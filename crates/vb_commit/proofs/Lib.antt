@@ -5,3 +5,4 @@ pub mod WayClauses
 pub mod WayLaws
 pub mod GivenPages
 pub mod PlannedPages
+pub mod NextBlocks

@@ -27,7 +27,7 @@ newest-written cell page =
     ap (λ (n : ℕ). get_or (cell.first ∷ (cell.later ++ page ∷ [])) n cell.first) more ∙ last_of cell.later page cell.first
 
 -- what each candidate is, the newest is
-newest-every : (P : List ℕ → Type 0) (cell : Cell) → All P (candidates cell) → P (newest cell)
+pub newest-every : (P : List ℕ → Type 0) (cell : Cell) → All P (candidates cell) → P (newest cell)
 newest-every P cell every = All-get_or P (candidates cell) (length cell.later) cell.first (omega arith) every
 
 -- ---- places that a call doesn't write

@@ -103,6 +103,11 @@ way-stays : (old new : WayState) (call : Call) (before after : Option DiskState)
 way-stays old new call before after (Ok x) is steps = subst IsWay (sym steps.went.goes) (IsWay-next old is)
 way-stays old new call before after (Err e) is steps = subst IsWay (sym steps.stays) is
 
+-- the head, the epoch and the images stay
+kept : {A : Type 0} (part : WayState → A) (old new : WayState) (call : Call) (before after : Option DiskState) (result : Result CommitStep DiskError) → part (next_of old) ≡ part old → Steps {T = CommitStep} call (λ got. new ≡ next_of old) (new ≡ old) before after result → part new ≡ part old
+kept part old new call before after (Ok x) same steps = ap part steps.went.goes ∙ same
+kept part old new call before after (Err e) same steps = ap part steps.stays
+
 -- ---- a page
 
 page-calls : (head : Head) (epoch : ℕ) (images : List (List ℕ)) (p : PlanPage) (rest : List PlanPage) (stage : Stage) (given : Option (List ℕ)) (new : WayState) (before after : Option DiskState) (result : Result CommitStep DiskError)
@@ -148,6 +153,9 @@ page-clauses : (head : Head) (epoch : ℕ) (images : List (List ℕ)) (p : PlanP
 page-clauses head epoch images p rest stage given new before after result is steps answer seen cause left called within = record {
   steps = steps;
   calls = page-calls head epoch images p rest stage given new before.told after.told result steps;
+  head = kept (λ s. s.head) (way head epoch images (p ∷ rest) stage) new (Change (Write (place_of p) (given_bytes p given))) before.told after.told result refl steps;
+  epoch = kept (λ s. s.epoch) (way head epoch images (p ∷ rest) stage) new (Change (Write (place_of p) (given_bytes p given))) before.told after.told result refl steps;
+  images = kept (λ s. s.images) (way head epoch images (p ∷ rest) stage) new (Change (Write (place_of p) (given_bytes p given))) before.told after.told result refl steps;
   answer = answer;
   falls = page-falls head epoch images p rest stage (Change (Write (place_of p) (given_bytes p given))) new (new ≡ way head epoch images (p ∷ rest) stage) before.told after.told result steps;
   called = called;
@@ -227,6 +235,9 @@ journal-way old new given before after result is c =
     record {
       steps = steps;
       calls = λ source from. c.calls;
+      head = c.head;
+      epoch = c.epoch;
+      images = c.images;
       answer = journal-answer old new before after result c;
       falls = journal-falls old new before after result c;
       called = subst (λ (due : Bool). CallsOnce Memory due before.calls after.calls result) (sym (due-going (head_of old) (epoch_of old) (images_of old) (stage_of old))) c.called;

@@ -1,9 +1,9 @@
 -- Laws of commits on their way: whole runs, and what leaves a disk known.
-use Rattle.std.proofs.Common.{◌≡◌, ◌≢◌, ℕ, ◌≤◌, true, false, Bool, cond, ◌==◌, List, [], ◌∷◌, All, length, get_or, refl, sym, ap, subst, ◌∙◌}
+use Rattle.std.proofs.Common.{inl, inr, ◌≡◌, ◌≢◌, ℕ, ◌≤◌, true, false, Bool, cond, ◌==◌, List, [], ◌∷◌, All, length, get_or, refl, sym, ap, subst, ◌∙◌}
 use Rattle.std.proofs.lemmas.List.{append-nil}
-use Rattle.std.proofs.lemmas.List.Elements.{All-weaker}
+use Rattle.std.proofs.lemmas.List.Elements.{All-cons, All-nil, All-weaker}
 use Rattle.vb_disk.specs.declared.cell.Cell.{Cell}
-use Rattle.vb_disk.specs.Cells.{candidates, hurt_cell}
+use Rattle.vb_disk.specs.Cells.{candidates, hurt_cell, synced_cell}
 use Rattle.vb_disk.specs.Crashes.{damaged}
 use Rattle.vb_disk.specs.States.{DiskState, written}
 use Rattle.vb_head.specs.declared.head.Head.{Head}
@@ -18,9 +18,9 @@ use Rattle.vb_plan.specs.declared.plan_page.PlanPage.TheVariants.{Data, Map}
 use Rattle.vb_plan.specs.Laws.{place_of}
 use Rattle.vb_steps.specs.Runs.{Event, IsRun}
 use Rattle.vb_steps.proofs.RunsKept.{run-keeps}
-use Rattle.vb_commit.specs.Known.{AreWritten, IsCommittingFor, IsEvery, IsLast, JournalStands, StandsFor, StoreStands}
+use Rattle.vb_commit.specs.Known.{AreWritten, IsCommittingFor, IsEvery, IsLast, IsNoFirst, JournalStands, OthersStand, StandsFor, StoreStands, newest}
 use Rattle.vb_commit.specs.Ways.{IsGivenFrom, IsWay, WayState, bytes_in, first_data, next_of, source_call, source_page}
-use Rattle.vb_commit.proofs.PageCells.{all-both, all-placed}
+use Rattle.vb_commit.proofs.PageCells.{all-both, all-placed, newest-every}
 use Rattle.vb_commit.proofs.WayClauses.{IsWay-next}
 use Rattle.vb_commit.proofs.WaysKept.{way, way-lost, way-made}
 
@@ -126,3 +126,15 @@ rested-parts source homes journal plan head epoch images pages stage d none rest
 pub rested-known : (source : ℕ → ℕ → List ℕ) (homes journal : ℕ → List ℕ) (plan : List PlanPage) (s : WayState) (d : DiskState) → s.pages ≡ [] → s.stage ≡ Rested → IsCommittingFor source homes journal plan s d
     → IsAtRest (closed_head s.head s.epoch) (new_images s.images homes) (new_journal s.images journal) d × All (IsEvery source d) plan
 rested-known source homes journal plan s d none rested k = rested-parts source homes journal plan s.head s.epoch s.images s.pages s.stage d none rested k
+
+-- ---- other pages
+
+all-newest : (cell : Cell) (page : List ℕ) → All (λ c. c ≡ page) (candidates cell) → All (λ c. c ≡ page) (candidates (synced_cell cell))
+all-newest cell page every = All-cons (λ (c : List ℕ). c ≡ page) (newest cell) [] (newest-every (λ (c : List ℕ). c ≡ page) cell every) (All-nil (λ (c : List ℕ). c ≡ page))
+
+-- a place that stands or was synced holds one page alone where it did
+pub only-stays : (from : ℕ) (pages : List PlanPage) (d next : DiskState) (place : ℕ) (page : List ℕ) → OthersStand from pages d next → from ≤ place → IsNoFirst pages place → All (λ c. c ≡ page) (candidates (d.cells place)) → All (λ c. c ≡ page) (candidates (next.cells place))
+only-stays from pages d next place page stand past other every = elim (stand place past other) [
+  | inl same ↦ subst (λ (cell : Cell). All (λ c. c ≡ page) (candidates cell)) (sym same) every
+  | inr synced ↦ subst (λ (cell : Cell). All (λ c. c ≡ page) (candidates cell)) (sym synced) (all-newest (d.cells place) page every)
+]

@@ -11,7 +11,10 @@ use Rattle.vb_journal.specs.declared.commit_stage.Stage.TheVariants.{Journal, Op
 use Rattle.vb_journal.specs.Plans.{closed_head}
 use Rattle.vb_journal.specs.Progress.{HasSameCandidates, IsAtRest, IsCommitting, new_images, new_journal}
 use Rattle.vb_plan.specs.declared.plan_page.PlanPage.{PlanPage}
+use Rattle.vb_index.specs.declared.held.Held.{Held}
+use Rattle.vb_inode.specs.Layout.{node_page}
 use Rattle.vb_plan.specs.Laws.{place_of}
+use Rattle.vb_plan.specs.Plans.{node_at, node_in}
 use Rattle.vb_commit.specs.Ways.{IsDataPage, WayState, bytes_in, first_data}
 
 -- ---- the planned pages
@@ -72,6 +75,12 @@ pub record IsCommittingFor (source : ℕ → ℕ → List ℕ) (homes journal : 
 pub record StandsFor (head : Head) (plan : List PlanPage) (old new : DiskState) : Type 0 where
   pub store : HasSameCandidates (first_data head) old new
   pub pages : All (λ p. candidates (new.cells (place_of p)) ≡ candidates (old.cells (place_of p))) plan
+
+-- ---- the blocks of nodes
+
+-- the block of the node of a slot; that of a free slot is the block of a free node there
+abbrev pub node_block : List (Option Held) → ℕ → List ℕ
+node_block nodes slot = node_page (node_in slot (node_at nodes slot))
 
 -- ---- a step
 

@@ -22,6 +22,9 @@ pub record WaySteps (old : WayState) (given : Option (List ℕ)) (new : WayState
   pub steps : steps.Steps {T = CommitStep} (call_at old given) (λ got. new ≡ next_of old) (new ≡ old) before.told after.told result
   -- the first of the calls that are left was made, whichever view the pages are of
   pub calls : (source : ℕ → ℕ → List ℕ) → IsGivenFrom source old.pages given → MakesFirst (calls_left source old) (calls_left source new) before.told after.told result
+  pub head : new.head ≡ old.head
+  pub epoch : new.epoch ≡ old.epoch
+  pub images : new.images ≡ old.images
   pub answer : IfOk result (λ step. step ≡ answer_of old)
   pub falls : OnOk result (steps_left new ≡ steps_left old - 1)
   -- one call, whatever the disk tells; the error has its cause, and a sync wants no memory

@@ -65,14 +65,19 @@ call_at s given = first_call s.pages given (journal.call_at s.head s.epoch s.ima
 
 -- ---- how it goes on
 
--- without the first of these pages, and else with the journal's next stage
-abbrev pub without_first : List PlanPage → WayState → WayState
-without_first [] s = record s { stage = next_stage (length s.images) s.stage }
-without_first (p ∷ pages) s = record s { pages = pages }
+-- the pages that are left after the first of these
+abbrev pub after_first : List PlanPage → List PlanPage
+after_first [] = []
+after_first (p ∷ pages) = pages
+
+-- the stage of the journal's commit after the call: it goes on where no page is left
+abbrev pub stage_after : List PlanPage → ℕ → Stage → Stage
+stage_after [] count stage = next_stage count stage
+stage_after (p ∷ pages) count stage = stage
 
 -- the commit after the call
 abbrev pub next_of : WayState → WayState
-next_of s = without_first s.pages s
+next_of s = record s { pages = after_first s.pages; stage = stage_after s.pages (length s.images) s.stage }
 
 -- Wrote while pages are left, and then this answer
 abbrev pub answer_in : List PlanPage → CommitStep → CommitStep
