@@ -1,22 +1,17 @@
 -- A store that was just made is at rest for the empty view.
-use Rattle.std.proofs.Common.{◌≡◌, ℕ, zero, suc, ◌+◌, ◌-◌, ◌<◌, ◌≤◌, Bool, false, cond, eqb, List, [], ◌∷◌, length, replicate, slice_get, Option, Some, None, Ok, refl, sym, ap, subst, ◌∙◌, arith}
+use Rattle.std.proofs.Common.{◌≡◌, ℕ, zero, suc, ◌+◌, ◌-◌, ◌≤◌, Bool, cond, List, [], ◌∷◌, length, replicate, Option, Some, None, refl, sym, ap, subst, ◌∙◌, arith}
 use Rattle.std.proofs.lemmas.Bool.{ne_eqb}
 use Rattle.std.proofs.lemmas.List.Elements.{All-nil}
 use Rattle.std.specs.Option.{option_map}
-use Rattle.vb_block.specs.declared.digest.Ref.{Ref}
 use Rattle.vb_disk.specs.States.{DiskState}
-use Rattle.vb_head.specs.declared.head.Head.{Head}
 use Rattle.vb_index.specs.declared.held.Held.{Held}
-use Rattle.vb_index.specs.Indexes.{IndexState}
 use Rattle.vb_index.specs.Nodes.{held_at, root_held}
 use Rattle.vb_index.proofs.Beginnings.{fresh-len, fresh-table, none_at}
 use Rattle.vb_index.proofs.Heights.{rooted-fresh}
 use Rattle.vb_inode.specs.declared.node.Node.{Node}
-use Rattle.vb_inode.specs.declared.node.NodeKind.{NodeKind}
 use Rattle.vb_inode.specs.declared.node.NodeKind.TheVariants.{Folder, Free}
 use Rattle.vb_inode.specs.Layout.{node_page, AreRefs}
 use Rattle.vb_tree.specs.Trees.{map_pages_of}
-use Rattle.vb_inode.specs.Reading.{node_read}
 use Rattle.vb_plan.specs.Plans.{node_at, node_in}
 use Rattle.vb_store.specs.Clear.{last_candidates}
 use Rattle.vb_store.specs.EmptyStores.{IsMadeEmpty, empty_home}

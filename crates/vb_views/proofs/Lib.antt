@@ -17,6 +17,7 @@ pub mod RestingViews
 pub mod RestsKept
 pub mod SettledViews
 pub mod TreesGiven
+pub mod TreesPlaced
 pub mod TreesRead
 pub mod ViewsHeld
 pub mod ViewsInPlace

@@ -396,7 +396,7 @@ is_tree head index reads tree t = record {
 
 -- ---- its contents
 
-slice_some : {X : Type 0} (xs : List X) (k : ℕ) → k < length xs → (x : X) × (slice_get xs k ≡ Some x)
+pub slice_some : {X : Type 0} (xs : List X) (k : ℕ) → k < length xs → (x : X) × (slice_get xs k ≡ Some x)
 slice_some [] k below = absurd (omega (arith, below))
 slice_some (x ∷ xs) zero below = (x, refl)
 slice_some (x ∷ xs) (suc k) below = slice_some xs k (omega (arith, below))

@@ -50,6 +50,10 @@ page_at reads (Some r) = reads r.place
 abbrev pub pages_by : (ℕ → List ℕ) → List (Option Held) → ℕ → ℕ → List ℕ
 pages_by reads nodes slot page = page_at reads (slice_get (unwrap_or (refs_at nodes slot) []) page)
 
+-- reads give each page of nodes, by slot and page, at the place of its reference
+abbrev pub GivePlaced : List (Option Held) → (ℕ → ℕ → List ℕ) → (ℕ → List ℕ) → Type 0
+GivePlaced nodes pages reads = (slot : ℕ) (held : Held) (k : ℕ) (r : Ref) → held_at nodes slot ≡ Some held → slice_get held.refs k ≡ Some r → reads r.place ≡ pages slot k
+
 -- reads give one of the candidates of each place, whichever it is
 abbrev pub GiveCandidates : DiskState → (ℕ → List ℕ) → Type 0
 GiveCandidates d reads = (place : ℕ) → Contains (candidates (d.cells place)) (reads place)

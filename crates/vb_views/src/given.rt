@@ -8,7 +8,7 @@ ghost use Rattle.vb_store.specs.Recovered.{entries_read, placed_in, recovered, R
 ghost use Rattle.vb_tree.specs.declared.tree.TreeEntry.{TreeEntry};
 ghost use Rattle.vb_tree.specs.Trees.{IsTree};
 ghost use Rattle.vb_views.specs.AtRest.{IsViewOf};
-ghost use Rattle.vb_views.specs.Reads.{pages_by, GivesBlocks, GivesPages};
+ghost use Rattle.vb_views.specs.Reads.{pages_by, GivePlaced, GivesBlocks, GivesPages};
 
 /// Whatever reads recover the head and the node blocks of a view by the journal and give its map pages give its
 /// metadata; and where they give its data pages too, what is recovered is its epoch and exactly the tree that its
@@ -29,4 +29,11 @@ pub fn the_nodes_of_a_view_are_the_entries_of_its_tree()
     ensures entries { (head : Head) (index : IndexState) (reads : ℕ → List ℕ) (tree : List TreeEntry) → IsViewOf head index
         → GivesPages index.nodes reads → HasTree index.nodes (pages_by reads index.nodes) tree
         → entries_read reads (placed_in index.nodes) ≡ Ok tree }
+{}
+
+/// A tree that the nodes of a view have over pages of any kind, as those in memory, is the one that they have over reads
+/// that give these pages at the places of their references. It does nothing.
+pub fn pages_at_their_places_have_the_same_tree()
+    ensures { (head : Head) (index : IndexState) (pages : ℕ → ℕ → List ℕ) (reads : ℕ → List ℕ) (tree : List TreeEntry) → IsViewOf head index
+        → GivePlaced index.nodes pages reads → HasTree index.nodes pages tree → HasTree index.nodes (pages_by reads index.nodes) tree }
 {}

@@ -13,7 +13,8 @@ pub use committing::{
     a_view_that_is_held_stays,
 };
 pub use given::{
-    the_blocks_of_a_view_give_its_metadata, the_nodes_of_a_view_are_the_entries_of_its_tree,
+    pages_at_their_places_have_the_same_tree, the_blocks_of_a_view_give_its_metadata,
+    the_nodes_of_a_view_are_the_entries_of_its_tree,
 };
 pub use resting::{
     a_view_at_rest_is_recovered, a_view_at_rest_stays, whichever_candidates_are_read_recover_a_view,
