@@ -69,7 +69,8 @@ pub fn a_view_that_is_held_stays()
     ensures fewer { (head : Head) (index : IndexState) (blocks : ℕ → List ℕ) (tree : List TreeEntry) (old new : DiskState)
         → HasNoMoreFrom (data_start head) new old → HoldsView head index blocks tree old → HoldsView head index blocks tree new }
     ensures write { (head : Head) (index : IndexState) (blocks : ℕ → List ℕ) (tree : List TreeEntry) (d : DiskState) (place : ℕ) (page : List ℕ)
-        → (Contains (places_in index.nodes) place → ⊥) → HoldsView head index blocks tree d → HoldsView head index blocks tree (written d place page) }
+        → (Contains (places_in index.nodes) place → ⊥) → HoldsView head index blocks tree d
+        → HoldsView head index blocks tree (written d place page) }
     ensures again { (head : Head) (index : IndexState) (blocks : ℕ → List ℕ) (tree : List TreeEntry) (d : DiskState) (place : ℕ) (page : List ℕ)
         → page ≡ (d.cells place).first → HoldsView head index blocks tree d → HoldsView head index blocks tree (written d place page) }
 {}
@@ -79,8 +80,8 @@ pub fn a_view_that_is_held_stays()
 pub fn a_placed_page_is_held_once_it_is_synced()
     ensures write { (d : DiskState) (planned : PlanPage) (page : List ℕ) → IsPageOf planned page
         → HasPlaced (written d (place_of planned) page) planned }
-    ensures stays { (old new : DiskState) (planned : PlanPage) → candidates (new.cells (place_of planned)) ≡ candidates (old.cells (place_of planned))
-        → HasPlaced old planned → HasPlaced new planned }
+    ensures stays { (old new : DiskState) (planned : PlanPage)
+        → candidates (new.cells (place_of planned)) ≡ candidates (old.cells (place_of planned)) → HasPlaced old planned → HasPlaced new planned }
     ensures sync { (d : DiskState) (planned : PlanPage) → HasPlaced d planned → HoldsPlanned (synced d) planned }
 {}
 
