@@ -1,0 +1,9 @@
+pub mod Behind
+pub mod Cuts
+pub mod Due
+pub mod Lengths
+pub mod Names
+pub mod Positions
+pub mod Rows
+pub mod Standing
+pub mod Taken

@@ -1,0 +1,19 @@
+// The upload of a frozen view to a cloud, message by message.
+#![tactic(auto)]
+
+mod answer;
+mod cursor;
+mod laws;
+mod message;
+mod upload;
+
+pub use answer::{UploadError, UploadStep};
+pub use cursor::Cursor;
+pub use laws::{
+    indexes_can_be_sent, plans_are_taken, plans_have_lengths, small_plans_are_these,
+    uploads_stand_while_pages_settle,
+};
+pub use upload::Upload;
+
+#[cfg(test)]
+mod tests;
