@@ -1,9 +1,11 @@
 pub mod Behind
 pub mod Cuts
 pub mod Due
+pub mod Growing
 pub mod Lengths
 pub mod Names
 pub mod Positions
 pub mod Rows
+pub mod Shown
 pub mod Standing
 pub mod Taken

@@ -23,7 +23,7 @@ use Rattle.vb_msg.specs.declared.message.Msg.TheVariants.{Begin, Seal, Publish}
 use Rattle.vb_msg.specs.declared.ranges.EntryPath.{EntryPath}
 use Rattle.vb_cloud.specs.declared.refusal.CloudRefusal.{CloudRefusal}
 use Rattle.vb_cloud.specs.declared.refusal.CloudRefusal.TheVariants.{BadParent, Twice, TooMany, TooLarge, NotLater, NoDraft}
-use Rattle.vb_cloud.specs.Machine.{ObjectState, Absent, Growing, Sealed, DraftState, CloudState, refuse_if, refuse_place, add_entry, cloud_step, with_draft, publish, begin}
+use Rattle.vb_cloud.specs.Machine.{Absent, CloudState, DraftState, Growing, ObjectState, Sealed, add_entry, begin, cloud_step, publish, refuse_if, refuse_place, with_draft}
 use Rattle.vb_upload.specs.Clouds.{and_next, cloud_through, drafting, showing, MayUpload}
 use Rattle.vb_upload.specs.Messages.{enter_named, epoch_named, path_named}
 use Rattle.vb_upload.specs.Plans.{part_at, parts_of, messages_by, entry_messages, messages_for, counts_of_tree, total_of, upload_plan}
@@ -42,10 +42,10 @@ through-append [] ys k = refl
 through-append (x ∷ xs) ys k = then-next (cloud_step k x) xs ys (through-append xs ys)
 
 -- where the first ones lead somewhere, the others go on from there
-through-both : (xs ys : List Msg) (k now : CloudState) → cloud_through k xs ≡ Ok now → cloud_through k (xs ++ ys) ≡ cloud_through now ys
+pub through-both : (xs ys : List Msg) (k now : CloudState) → cloud_through k xs ≡ Ok now → cloud_through k (xs ++ ys) ≡ cloud_through now ys
 through-both xs ys k now goes = through-append xs ys k ∙ ap (λ r. and_next r (λ a. cloud_through a ys)) goes
 
-abbrev went : CloudState → Result CloudState CloudRefusal
+abbrev pub went : CloudState → Result CloudState CloudRefusal
 went k = Ok k
 
 -- one message
@@ -104,7 +104,7 @@ after-here : (front : List TreeEntry) (e : TreeEntry) (back : List TreeEntry) �
 after-here [] e back order = order.0
 after-here (x ∷ xs) e back order = after-here xs e back order.1
 
-belongs-here : (tree front : List TreeEntry) (e : TreeEntry) (back : List TreeEntry) → AllBelongIn tree (front ++ e ∷ back) → BelongsIn tree e
+pub belongs-here : (tree front : List TreeEntry) (e : TreeEntry) (back : List TreeEntry) → AllBelongIn tree (front ++ e ∷ back) → BelongsIn tree e
 belongs-here tree [] e back all = all.0
 belongs-here tree (x ∷ xs) e back all = belongs-here tree xs e back all.1
 
@@ -230,7 +230,7 @@ part-taken k front epoch bytes j few within =
     ∙ ap (λ b. with_draft (with_object k epoch front (Growing so_far)) (refuse_if b (TooLarge (length so_far + length part)) (held (draft_with epoch front (Growing (so_far ++ part)))))) (fits bytes j few)
     ∙ ap (λ (bs : List ℕ). with_draft (with_object k epoch front (Growing so_far)) (held (draft_with epoch front (Growing bs)))) (one-more bytes j)
 
-parts-taken : (k : CloudState) (front : List TreeEntry) (epoch : ℕ) (bytes : List ℕ) (n j : ℕ) → length bytes ≤ 44433408 → j + n ≤ data_pages_of (length bytes) → cloud_through (with_object k epoch front (Growing (take (4096 * j) bytes))) (map (part_at bytes) (range_with_len j n)) ≡ Ok (with_object k epoch front (Growing (take (4096 * (j + n)) bytes)))
+pub parts-taken : (k : CloudState) (front : List TreeEntry) (epoch : ℕ) (bytes : List ℕ) (n j : ℕ) → length bytes ≤ 44433408 → j + n ≤ data_pages_of (length bytes) → cloud_through (with_object k epoch front (Growing (take (4096 * j) bytes))) (map (part_at bytes) (range_with_len j n)) ≡ Ok (with_object k epoch front (Growing (take (4096 * (j + n)) bytes)))
 parts-taken k front epoch bytes zero j few within = ap (λ (i : ℕ). went (with_object k epoch front (Growing (take (4096 * i) bytes)))) (omega arith)
 parts-taken k front epoch bytes (suc n) j few within =
     through-one (part_at bytes j) (with_object k epoch front (Growing (take (4096 * j) bytes))) (with_object k epoch front (Growing (take (4096 * (j + 1)) bytes))) (part-taken k front epoch bytes j few (omega arith)) (map (part_at bytes) (range_with_len (j + 1) n))
@@ -238,7 +238,7 @@ parts-taken k front epoch bytes (suc n) j few within =
     ∙ ap (λ (i : ℕ). went (with_object k epoch front (Growing (take (4096 * i) bytes)))) (omega arith)
 
 -- the messages of a file's content
-content-taken : (k : CloudState) (front : List TreeEntry) (epoch : ℕ) (bytes : List ℕ) → length bytes ≤ 44433408 → cloud_through (with_object k epoch front (Growing [])) (parts_of bytes) ≡ Ok (with_object k epoch front (Growing bytes))
+pub content-taken : (k : CloudState) (front : List TreeEntry) (epoch : ℕ) (bytes : List ℕ) → length bytes ≤ 44433408 → cloud_through (with_object k epoch front (Growing [])) (parts_of bytes) ≡ Ok (with_object k epoch front (Growing bytes))
 content-taken k front epoch bytes few =
     let cover = pages-cover (length bytes) in
     parts-taken k front epoch bytes (data_pages_of (length bytes)) 0 few (omega arith)
@@ -265,7 +265,7 @@ entries-taken k epoch published front (e ∷ es) back is few =
 
 -- ---- a plan
 
-begun : (k : CloudState) (epoch : ℕ) (tree : List TreeEntry) → MayUpload k epoch tree → cloud_step k (Begin (epoch_named epoch)) ≡ Ok (drafting k epoch [])
+pub begun : (k : CloudState) (epoch : ℕ) (tree : List TreeEntry) → MayUpload k epoch tree → cloud_step k (Begin (epoch_named epoch)) ≡ Ok (drafting k epoch [])
 begun k epoch tree may =
     ap (λ (n : ℕ). begin n k) (epoch-here epoch may.small)
     ∙ ap (λ b. refuse_if (not b) (NotLater k.epoch epoch) (went (drafting k epoch []))) (lt-ltb k.epoch epoch may.later)
@@ -337,4 +337,4 @@ next-taken k now epoch place tree published m may reached there =
     let step : cloud_through k (take (place + 1) plan) ≡ cloud_step now m = goes ∙ ok-as (cloud_step now m) in
     (sym step, subst IsOk step (first-part-ok (cloud_through k (take (place + 1) plan)) (drop (place + 1) plan) (showing k epoch tree) (sym split ∙ whole)))
 
-pub ruleset taken = (plan-taken, drafted-front, next-taken)
+pub ruleset taken = (plan-taken, drafted-front)

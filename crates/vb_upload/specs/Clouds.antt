@@ -4,7 +4,7 @@ use Rattle.vb_tree.specs.declared.tree.TreeEntry.{TreeEntry}
 use Rattle.vb_tree.specs.Trees.{IsTree}
 use Rattle.vb_msg.specs.declared.message.Msg.{Msg}
 use Rattle.vb_cloud.specs.declared.refusal.CloudRefusal.{CloudRefusal}
-use Rattle.vb_cloud.specs.Machine.{Absent, CloudState, cloud_step}
+use Rattle.vb_cloud.specs.Machine.{Absent, CloudState, Growing, Sealed, cloud_step}
 
 -- what comes next for the state that a step leaves; refused where the step is
 abbrev pub and_next : Result CloudState CloudRefusal → (CloudState → Result CloudState CloudRefusal) → Result CloudState CloudRefusal
@@ -26,6 +26,14 @@ pub record MayUpload (k : CloudState) (epoch : ℕ) (tree : List TreeEntry) : Ty
 -- a cloud with a draft of an epoch that has these entries, and no object
 abbrev pub drafting : CloudState → ℕ → List TreeEntry → CloudState
 drafting k epoch tree = record k { draft = Some (record { epoch = epoch; tree = tree; object = Absent }) }
+
+-- a cloud with a draft of an epoch that has these entries, and an object of these bytes that grows
+abbrev pub growing : CloudState → ℕ → List TreeEntry → List ℕ → CloudState
+growing k epoch tree bytes = record k { draft = Some (record { epoch = epoch; tree = tree; object = Growing bytes }) }
+
+-- a cloud with a draft of an epoch that has these entries, and an object of these bytes that is whole
+abbrev pub sealed : CloudState → ℕ → List TreeEntry → List ℕ → CloudState
+sealed k epoch tree bytes = record k { draft = Some (record { epoch = epoch; tree = tree; object = Sealed bytes }) }
 
 -- a cloud that shows a tree at an epoch, and has no draft
 abbrev pub showing : CloudState → ℕ → List TreeEntry → CloudState

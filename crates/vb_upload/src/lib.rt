@@ -10,8 +10,8 @@ mod upload;
 pub use answer::{UploadError, UploadStep};
 pub use cursor::Cursor;
 pub use laws::{
-    indexes_can_be_sent, plans_are_taken, plans_have_lengths, small_plans_are_these,
-    uploads_stand_while_pages_settle,
+    contents_grow_by_pages, indexes_can_be_sent, plans_are_taken, plans_have_lengths,
+    plans_show_nothing_before_their_end, small_plans_are_these, uploads_stand_while_pages_settle,
 };
 pub use upload::Upload;
 

@@ -1,6 +1,8 @@
 // Uploads of small views, with a link and a disk that fail.
-ghost use Rattle.std.specs.Prelude.{◌<◌, ◌≡◌, ℕ, IsTrue, Some, length, slice_get};
+ghost use Rattle.std.specs.Prelude.{◌<◌, ◌≤◌, ◌≡◌, ℕ, false, IsTrue, Some, length, slice_get};
 ghost use Rattle.vb_block.specs.declared.digest.Ref.{Ref};
+ghost use Rattle.vb_path.specs.Paths.{IsPath};
+ghost use Rattle.vb_tree.specs.Trees.{data_pages_of, is_root, longest_file};
 ghost use Rattle.vb_frozen.specs.Views.{page_ref};
 ghost use Rattle.vb_frozen.specs.declared.entry.FrozenEntry.{FrozenEntry};
 ghost use Rattle.vb_upload.specs.Cursors.{AllCanBeSent, CanBeSent, IsFileWith, StandsIn};
@@ -13,9 +15,10 @@ use vb_block::{Digest, Page, Ref, page_digest};
 use vb_disk::{Disk, MemoryDisk};
 use vb_frozen::{Frozen, FrozenEntry};
 use vb_index::Index;
+use vb_inode::Refs;
 use vb_link::{Link, MemoryCloud};
 use vb_pages::PageTable;
-use vb_path::{Path, is_part, paths_have_parts};
+use vb_path::{Names, Path, is_part, paths_have_parts};
 use vb_tree::{Kind, LONGEST_FILE, Limits};
 
 const LIMITS: Limits = Limits {
@@ -36,20 +39,43 @@ const OF_EE: [u8; 32] = [
 
 // ---- what a step asks for, looked at before it
 
-// Whether an entry at the top can be sent, and its pages lie on a disk of so many places.
-fn can_be_sent(entry: &FrozenEntry, blocks: u32) -> bool
-    ensures sent { IsTrue result → CanBeSent entry.now }
-    ensures below { IsTrue result → (page : ℕ) (reference : Ref) → slice_get entry.now.refs page ≡ Some reference
-        → reference.place < blocks }
+// Whether a path is that of an entry at the top.
+fn is_at_top(path: &Names) -> bool
+    ensures valid { IsTrue result → IsPath path.now }
+    ensures below { IsTrue result → is_root path.now ≡ false }
 {
     paths_have_parts();
-    let [part] = entry.path.slice() else {
-        return false;
-    };
-    is_part(part.slice())
-        && entry.len <= LONGEST_FILE
-        && entry.refs.len() as u64 == entry.len.div_ceil(4096)
-        && entry.refs.slice().iter().all(|r| r.place < blocks)
+    match path.slice() {
+        [part] => is_part(part.slice()),
+        _ => false,
+    }
+}
+
+// Whether each page of an entry has a reference.
+fn has_references(entry: &FrozenEntry) -> bool
+    ensures few { IsTrue result → entry.now.len ≤ longest_file }
+    ensures each { IsTrue result → length entry.now.refs ≡ data_pages_of entry.now.len }
+{
+    entry.len <= LONGEST_FILE && entry.refs.len() as u64 == entry.len.div_ceil(4096)
+}
+
+// Whether an entry at the top can be sent.
+fn can_be_sent(entry: &FrozenEntry) -> bool
+    ensures { IsTrue result → CanBeSent entry.now }
+{
+    is_at_top(&entry.path) && has_references(entry)
+}
+
+// Whether pages lie on a disk of so many places.
+fn are_below(refs: &Refs, blocks: u32) -> bool
+    ensures { IsTrue result → (page : ℕ) (reference : Ref) → slice_get refs.now page ≡ Some reference → reference.place < blocks }
+{
+    for reference in refs.slice() {
+        if reference.place >= blocks {
+            return false;
+        }
+    }
+    true
 }
 
 // Whether each entry of a view can be sent, and its pages lie on a disk of so many places.
@@ -59,7 +85,7 @@ fn all_can_be_sent(frozen: &Frozen, blocks: u32) -> bool
         → reference.place < blocks }
 {
     for i in 0..frozen.count() {
-        if !can_be_sent(frozen.entry(i), blocks) {
+        if !can_be_sent(frozen.entry(i)) || !are_below(&frozen.entry(i).refs, blocks) {
             return false;
         }
     }
@@ -242,6 +268,17 @@ fn shown(link: &mut MemoryCloud) -> Option<(u64, u32)> {
     Some((info.epoch, info.entries))
 }
 
+// The answer of a step whose page at place 34 is damaged.
+fn damaged() -> Option<Result<UploadStep, UploadError>> {
+    Some(Err(UploadError::Damaged {
+        i: 0,
+        page: 0,
+        place: 34,
+        kept: Digest::of(OF_ONE),
+        found: Digest::of(OF_EE),
+    }))
+}
+
 #[test]
 fn a_damaged_page_is_not_sent(rt: HostRuntime) -> Result<(), Fail> {
     let alloc = rt.alloc();
@@ -253,20 +290,13 @@ fn a_damaged_page_is_not_sent(rt: HostRuntime) -> Result<(), Fail> {
     let mut link = MemoryCloud::new(alloc);
     let mut upload = Upload::start(1);
     damage(alloc, &mut disk).ok_or("damage")?;
-    let damaged = Some(Err(UploadError::Damaged {
-        i: 0,
-        page: 0,
-        place: 34,
-        kept: Digest::of(OF_ONE),
-        found: Digest::of(OF_EE),
-    }));
     assert_eq!(rt;
         steps(alloc, &frozen, &mut upload, &mut disk, &mut link),
-        (2, damaged)
+        (2, damaged())
     );
     assert_eq!(rt;
         steps(alloc, &frozen, &mut upload, &mut disk, &mut link),
-        (0, damaged)
+        (0, damaged())
     );
     assert_eq!(rt; shown(&mut link), Some((0, 0)));
 
