@@ -1,6 +1,7 @@
 pub mod Behind
 pub mod Cuts
 pub mod Due
+pub mod GoesOn
 pub mod Growing
 pub mod Lengths
 pub mod Names

@@ -19,7 +19,7 @@ use Rattle.vb_upload.specs.Plans.{part_at, parts_of, messages_by, entry_messages
 use Rattle.vb_upload.proofs.Lengths.{length-entries, length-plan}
 use Rattle.vb_upload.proofs.Taken.{begun, next-taken, plan-taken, went}
 
-ok_same : (a b : CloudState) → went a ≡ went b → a ≡ b
+pub ok_same : (a b : CloudState) → went a ≡ went b → a ≡ b
 ok_same a b h = ap (λ r. ok_or a r) h where
   ok_or : CloudState → Result CloudState CloudRefusal → CloudState
   ok_or d (Ok x) = x

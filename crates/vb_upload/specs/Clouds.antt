@@ -1,10 +1,11 @@
 -- What a cloud makes of a plan.
-use Rattle.std.specs.Prelude.{ℕ, ◌<◌, ◌≤◌, List, [], ◌∷◌, length, Some, None, Result, Ok, Err}
+use Rattle.std.specs.Prelude.{◌≡◌, ℕ, ◌<◌, ◌≤◌, List, [], ◌∷◌, length, Some, None, Result, Ok, Err, ◌⊎◌, take}
 use Rattle.vb_tree.specs.declared.tree.TreeEntry.{TreeEntry}
 use Rattle.vb_tree.specs.Trees.{IsTree}
 use Rattle.vb_msg.specs.declared.message.Msg.{Msg}
 use Rattle.vb_cloud.specs.declared.refusal.CloudRefusal.{CloudRefusal}
 use Rattle.vb_cloud.specs.Machine.{Absent, CloudState, Growing, Sealed, cloud_step}
+use Rattle.vb_upload.specs.Plans.{upload_plan}
 
 -- what comes next for the state that a step leaves; refused where the step is
 abbrev pub and_next : Result CloudState CloudRefusal → (CloudState → Result CloudState CloudRefusal) → Result CloudState CloudRefusal
@@ -38,3 +39,12 @@ sealed k epoch tree bytes = record k { draft = Some (record { epoch = epoch; tre
 -- a cloud that shows a tree at an epoch, and has no draft
 abbrev pub showing : CloudState → ℕ → List TreeEntry → CloudState
 showing k epoch tree = record k { epoch = epoch; tree = tree; draft = None }
+
+-- a cloud without its draft
+abbrev pub undrafted : CloudState → CloudState
+undrafted k = record k { draft = None }
+
+-- a cloud has taken the first so many messages of the plan of an epoch and a tree, over the tree that it shows: none yet, or
+-- it is what they make of it without a draft
+abbrev pub HasTaken : ℕ → ℕ → List TreeEntry → CloudState → Type 0
+HasTaken n epoch tree k = (n ≡ 0) ⊎ (cloud_through (undrafted k) (take n (upload_plan epoch tree k.tree)) ≡ Ok k)

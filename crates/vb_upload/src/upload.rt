@@ -18,7 +18,7 @@ use vb_frozen::Frozen;
 use vb_link::{Link, LinkError};
 use vb_msg::{Epoch, Msg};
 
-/// The upload of a frozen view at an epoch: which view's message comes next.
+/// The upload of a frozen view at an epoch: which message of its plan comes next.
 #[derive(Clone, Copy, Debug, PartialEq, Eq)]
 pub struct Upload {
     epoch: Epoch,
@@ -53,8 +53,20 @@ impl Upload {
         requires below { (i page : ℕ) (reference : Ref) → IsOnDisk frozen.now.order frozen.now.pages i page reference
             → reference.place < D.seen disk.old }
         ensures steps { UploadSteps frozen.now.order frozen.now.pages
-            (record { upload = self.old; disk = D.told disk.old; cloud = K.told link.old; sends = K.sends link.old; left = K.failures_left link.old })
-            (record { upload = self.new; disk = D.told disk.new; cloud = K.told link.new; sends = K.sends link.new; left = K.failures_left link.new })
+            (record {
+              upload = self.old;
+              disk = D.told disk.old;
+              cloud = K.told link.old;
+              sends = K.sends link.old;
+              left = K.failures_left link.old;
+            })
+            (record {
+              upload = self.new;
+              disk = D.told disk.new;
+              cloud = K.told link.new;
+              sends = K.sends link.new;
+              left = K.failures_left link.new;
+            })
             result }
         ensures seen { D.seen disk.new ≡ D.seen disk.old }
         ensures disk_cause { HasCause UploadError.DiskFault (D.faults disk.old) (D.faults disk.new) result }
