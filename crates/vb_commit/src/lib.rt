@@ -14,3 +14,6 @@ pub use laws::{
     a_rested_commit_has_the_next_nodes, a_rested_commit_leaves_its_pages,
     damage_and_other_data_leave_a_commit, each_run_of_a_commit_stays_known, other_pages_stay,
 };
+
+#[cfg(test)]
+mod tests;
