@@ -2,8 +2,6 @@
 ghost use Rattle.std.specs.Prelude.{◌≡◌, ◌≤◌, ◌<◌, ◌^◌, ◌∷◌, [], length, true, IsSome, IfOk, OnOk};
 ghost use Rattle.vb_inode.specs.declared.next_view.PageSource.TheVariants.{Fresh};
 ghost use Rattle.vb_plan.specs.Worked.{file_next, root_next};
-ghost use Rattle.vb_store.specs.Mounts.{blocks_of_mount, mount_phase};
-ghost use Rattle.vb_store.specs.NextViews.{IsHeadAfter};
 ghost use Rattle.vb_store.specs.Views.{HasNoneBegun, IsView};
 ghost use Rattle.vb_tree.specs.Trees.{data_pages_of};
 
@@ -14,7 +12,7 @@ use vb_block::{Digest, FolderId, Page, page_digest};
 use vb_disk::{Disk, DiskError, MemoryDisk, Side, Tear};
 use vb_index::{Bytes, Node, NodeKind, Refs};
 use vb_inode::{NextNode, NextView, PageSource, Sources};
-use vb_journal::{Ahead, CommitStep, RecoverError};
+use vb_journal::{Ahead, CommitStep};
 use vb_path::is_part;
 use vb_store::{Mount, Mounted, View, format};
 
