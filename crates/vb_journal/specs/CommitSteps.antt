@@ -1,5 +1,5 @@
 -- What a step of a commit gives, as one relation of the commit and the disk before it and after it.
-use Rattle.std.specs.Prelude.{◌≡◌, ℕ, ◌+◌, ◌*◌, List, ◌∷◌, length, not, Result, IfOk, IsErrOf, OnErr, OnOk}
+use Rattle.std.specs.Prelude.{◌≡◌, ℕ, List, ◌∷◌, length, not, Result, IfOk, IsErrOf, OnErr, OnOk}
 use Rattle.vb_cause.specs.Causes.{HasCause, UsesFailures}
 use Rattle.vb_disk.specs.declared.disk_error.DiskError.{DiskError}
 use Rattle.vb_disk.specs.declared.disk_error.DiskError.TheVariants.{Failed, Memory}

@@ -1,5 +1,5 @@
 -- How far the places of a store have come while a commit goes on.
-use Rattle.std.specs.Prelude.{◌≡◌, ◌≢◌, ◌⊎◌, ℕ, suc, ◌+◌, ◌<◌, ◌≤◌, Bool, true, false, nat_lt, if◌then◌else◌, List, [], ◌∷◌, length, replicate, Option, Some, None}
+use Rattle.std.specs.Prelude.{◌≡◌, ◌≢◌, ◌⊎◌, ℕ, suc, ◌<◌, ◌≤◌, Bool, true, false, nat_lt, if◌then◌else◌, List, [], ◌∷◌, length, replicate, Option, Some, None}
 use Rattle.std.specs.List.{All}
 use Rattle.vb_disk.specs.declared.cell.Cell.{Cell}
 use Rattle.vb_disk.specs.Cells.{candidates}
