@@ -76,6 +76,11 @@ one_file name len source = root_next ∷ file_next 1 (name ∷ []) len (source �
 abbrev pub one_folder : List NextNode
 one_folder = root_next ∷ folder_next 2 (100 ∷ []) ∷ []
 
+-- a root, and two files of a byte, of which the one in slot 2 has the first path
+abbrev pub two_files : List ℕ → List ℕ → List NextNode
+two_files first second =
+    root_next ∷ file_next 2 (97 ∷ []) 1 (Fresh first ∷ []) ∷ file_next 1 (98 ∷ []) 1 (Fresh second ∷ []) ∷ []
+
 file_clear : (name len : ℕ) (source : PageSource) → table_fault (nodes_by_slot 16 (one_file name len source)) ≡ None
 file_clear name len source =
     let nodes = nodes_by_slot 16 (one_file name len source) in
@@ -88,11 +93,27 @@ folder_clear =
     let folder : fault_of_slot nodes 2 ≡ None = entry_clear nodes 2 refl refl refl refl refl in
     clear nodes 15 (clear nodes 14 (clear nodes 13 (clear nodes 12 (clear nodes 11 (clear nodes 10 (clear nodes 9 (clear nodes 8 (clear nodes 7 (clear nodes 6 (clear nodes 5 (clear nodes 4 (clear nodes 3 (clear nodes 2 (clear nodes 1 (clear nodes 0 refl refl) refl) folder) refl) refl) refl) refl) refl) refl) refl) refl) refl) refl) refl) refl) refl
 
+two_clear : (first second : List ℕ) → table_fault (nodes_by_slot 16 (two_files first second)) ≡ None
+two_clear first second =
+    let nodes = nodes_by_slot 16 (two_files first second) in
+    let one : fault_of_slot nodes 1 ≡ None = entry_clear nodes 1 refl refl refl refl refl in
+    let two : fault_of_slot nodes 2 ≡ None = entry_clear nodes 2 refl refl refl refl refl in
+    clear nodes 15 (clear nodes 14 (clear nodes 13 (clear nodes 12 (clear nodes 11 (clear nodes 10 (clear nodes 9 (clear nodes 8 (clear nodes 7 (clear nodes 6 (clear nodes 5 (clear nodes 4 (clear nodes 3 (clear nodes 2 (clear nodes 1 (clear nodes 0 refl refl) one) two) refl) refl) refl) refl) refl) refl) refl) refl) refl) refl) refl) refl) refl
+
 one_of_two : (slot other : ℕ) (a b : Bool) → 0 < other → (0 == slot) ≡ a → (other == slot) ≡ b → cond a 1 0 + cond b 1 0 ≤ 1
 one_of_two slot other true true some ea eb = absurd (omega (arith, some, eqb-true 0 slot ea, eqb-true other slot eb))
 one_of_two slot other true false some ea eb = omega arith
 one_of_two slot other false true some ea eb = omega arith
 one_of_two slot other false false some ea eb = omega arith
+
+one_of_three : (slot : ℕ) (a b c : Bool) → (0 == slot) ≡ a → (2 == slot) ≡ b → (1 == slot) ≡ c → cond a 1 0 + (cond b 1 0 + cond c 1 0) ≤ 1
+one_of_three slot true true c ea eb ec = absurd (omega (arith, eqb-true 0 slot ea, eqb-true 2 slot eb))
+one_of_three slot true false true ea eb ec = absurd (omega (arith, eqb-true 0 slot ea, eqb-true 1 slot ec))
+one_of_three slot true false false ea eb ec = omega arith
+one_of_three slot false true true ea eb ec = absurd (omega (arith, eqb-true 2 slot eb, eqb-true 1 slot ec))
+one_of_three slot false true false ea eb ec = omega arith
+one_of_three slot false false true ea eb ec = omega arith
+one_of_three slot false false false ea eb ec = omega arith
 
 root_is : IsNextNode 16 root_next
 unfolding may_be_named
@@ -109,6 +130,10 @@ file_is name len source part one = record {
   unplanned = refl;
   each_page = sym one;
 }
+
+second_is : (digest : List ℕ) → IsTrue (is_part (97 ∷ [])) → IsNextNode 16 (file_next 2 (97 ∷ []) 1 (Fresh digest ∷ []))
+unfolding may_be_named
+second_is digest part = record { slot = omega arith; used = refl; named = part; parented = search rules; measured = search rules; unplanned = refl; each_page = refl }
 
 folder_is : IsTrue (is_part (100 ∷ [])) → IsNextNode 16 (folder_next 2 (100 ∷ []))
 unfolding may_be_named
@@ -128,6 +153,16 @@ folder_tree part = record {
   root = refl;
   own_slot = λ slot. omega (arith, one_of_two slot 2 (0 == slot) (2 == slot) (omega arith) refl refl);
   no_fault = folder_clear;
+}
+
+two_tree : (first second : List ℕ) → IsTrue (is_part (97 ∷ [])) → IsTrue (is_part (98 ∷ [])) → IsNextTree 16 (two_files first second)
+two_tree first second a b = record {
+  nodes = All-cons (IsNextNode 16) root_next (file_next 2 (97 ∷ []) 1 (Fresh first ∷ []) ∷ file_next 1 (98 ∷ []) 1 (Fresh second ∷ []) ∷ []) root_is
+      (All-cons (IsNextNode 16) (file_next 2 (97 ∷ []) 1 (Fresh first ∷ [])) (file_next 1 (98 ∷ []) 1 (Fresh second ∷ []) ∷ []) (second_is first a)
+      (All-cons (IsNextNode 16) (file_next 1 (98 ∷ []) 1 (Fresh second ∷ [])) [] (file_is 98 1 (Fresh second) b refl) (All-nil (IsNextNode 16))));
+  root = refl;
+  own_slot = λ slot. omega (arith, one_of_three slot (0 == slot) (2 == slot) (1 == slot) refl refl refl);
+  no_fault = two_clear first second;
 }
 
 -- ---- they can follow
@@ -163,6 +198,14 @@ folder_follows index many pages part = record {
   kept_once = λ place. omega arith;
 }
 
+pub two_follow : (index : IndexState) (first second : List ℕ) → length index.nodes ≡ 16 → index.limits.pages ≡ 15 → IsTrue (is_part (97 ∷ [])) → IsTrue (is_part (98 ∷ [])) → CanFollow index (two_files first second)
+two_follow index first second many pages a b = record {
+  tree = tree_of index (two_files first second) many (two_tree first second a b);
+  pages = omega (arith, pages);
+  kept = All-nil _;
+  kept_once = λ place. omega arith;
+}
+
 -- ---- beside a small view
 
 slots_of : (v : ViewState) → IsSmallView v → length v.index.nodes ≡ 16
@@ -180,6 +223,9 @@ small_kept v name len r next is part one there made = subst (CanFollow v.index) 
 
 pub small_folder : (v : ViewState) (next : List NextNode) → IsSmallView v → IsTrue (is_part (100 ∷ [])) → next ≡ one_folder → CanFollow v.index next
 small_folder v next is part made = subst (CanFollow v.index) (sym made) (folder_follows v.index (slots_of v is) (pages_of v is) part)
+
+pub small_two : (v : ViewState) (first second : List ℕ) (next : List NextNode) → IsSmallView v → IsTrue (is_part (97 ∷ [])) → IsTrue (is_part (98 ∷ [])) → next ≡ two_files first second → CanFollow v.index next
+small_two v first second next is a b made = subst (CanFollow v.index) (sym made) (two_follow v.index first second (slots_of v is) (pages_of v is) a b)
 
 -- ---- references of pages that are held
 

@@ -77,6 +77,20 @@ fn one_folder(alloc: Global) -> Result<NextView, AllocError>
     Ok(next)
 }
 
+// A root, and two files of a byte, of which the one in slot 2 has the first path.
+fn two_files(alloc: Global, first: Digest, second: Digest) -> Result<NextView, AllocError>
+    ensures { IfOk result (λ next. next ≡ root_next ∷ file_next 2 (97 ∷ []) 1 (Fresh first ∷ [])
+        ∷ file_next 1 (98 ∷ []) 1 (Fresh second ∷ []) ∷ []) }
+{
+    let mut next = NextView::new(alloc);
+    next.add(next_node(alloc, 0, NodeKind::Folder, &[], 0, Sources::new(alloc))?)?;
+    let pages = Sources::of(alloc, &[PageSource::Fresh(first)])?;
+    next.add(next_node(alloc, 2, NodeKind::File, b"a", 1, pages)?)?;
+    let pages = Sources::of(alloc, &[PageSource::Fresh(second)])?;
+    next.add(next_node(alloc, 1, NodeKind::File, b"b", 1, pages)?)?;
+    Ok(next)
+}
+
 // The head that counts out the commit of the next epoch.
 fn head_after(head: Head) -> Option<Head>
     requires { IsInRange head }
@@ -195,6 +209,18 @@ fn commit_folder(alloc: Global, view: &mut View) -> Result<Row, Fail>
     commit(alloc, view, &next)
 }
 
+// Commits two files.
+fn commit_two(alloc: Global, view: &mut View) -> Result<Row, Fail>
+    requires { IsSmallView view.old }
+    ensures { OnOk result (IsSmallView view.new) }
+{
+    if !is_part(&[97]) || !is_part(&[98]) {
+        return Err(Fail::from("no name"));
+    }
+    let next = two_files(alloc, Digest::of([1; 32]), Digest::of([2; 32]))?;
+    commit(alloc, view, &next)
+}
+
 // The head of an empty store of 64 places and 16 nodes.
 fn wide_head() -> Head
     ensures viewed { CanView result (empty_index result) }
@@ -250,5 +276,15 @@ fn commits_follow_each_other(rt: HostRuntime) -> Result<(), Fail> {
     assert!(rt; view.next().is_none());
     assert_eq!(rt; view.index().count(), 2);
     assert_eq!(rt; view.head().epoch, 6);
+    Ok(())
+}
+
+#[test]
+fn two_files_are_committed_at_once(rt: HostRuntime) -> Result<(), Fail> {
+    let mut view = empty_view(rt.alloc())?;
+    let row = commit_two(rt.alloc(), &mut view)?;
+    assert_eq!(rt; row, (Some(34), Some(35), 2, 18));
+    assert_eq!(rt; view.index().count(), 3);
+    assert_eq!(rt; view.index().pages(), 4);
     Ok(())
 }
