@@ -19,8 +19,8 @@ use vb_inode::NextView;
 
 impl View {
     /// Makes the plan of a commit to these nodes, and begins the next view, which has them with the references that the
-    /// plan gives. It takes one pass over the nodes and the references of both views, and one over the places that the
-    /// next one uses. Want of memory leaves the view as it was.
+    /// plan gives. It goes over the nodes and the references of both views, judges the nodes by slot as a mount does, and
+    /// goes over the places that the next view uses. Want of memory leaves the view as it was.
     pub fn plan_commit(&mut self, alloc: Global, next: &NextView) -> Result<CommitPlan, AllocError>
         requires none_begun { HasNoneBegun self.old }
         requires can { CanFollow self.old.index next.now }
