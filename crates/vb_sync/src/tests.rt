@@ -1,0 +1,162 @@
+// The look-ups over eight thousand files, and over files that are nearly equal.
+use super::*;
+use std::alloc::{AllocError, Global};
+use std::process::Abort;
+use std::test::Fail;
+use vb_block::{Digest, FolderId, Page, page_digest};
+use vb_link::{Link, LinkError, MemoryCloud};
+use vb_msg::{CloudId, EntryPath, Epoch, Msg, PartBytes};
+use vb_tree::{Bytes, Kind, Path};
+
+// The digest of the page that begins with the four bytes of a number, the lowest first, and has zeros after them.
+fn digest_of(alloc: Global, number: u32) -> Result<Digest, AllocError> {
+    let mut page = Page::zero(alloc)?;
+    page.set(0, &number.to_le_bytes());
+    Ok(page_digest(&page))
+}
+
+fn epoch(rt: &impl Abort) -> Epoch {
+    Epoch::of(1).expect(rt, "an epoch")
+}
+
+fn part(rt: &impl Abort, alloc: Global, bytes: &[u8]) -> Result<Msg, Fail> {
+    Ok(Msg::Part {
+        bytes: PartBytes::of(Bytes::of(alloc, bytes)?).expect(rt, "a part"),
+    })
+}
+
+fn enter(rt: &impl Abort, alloc: Global, text: &[u8], kind: Kind) -> Result<Msg, Fail> {
+    Ok(Msg::Enter {
+        path: EntryPath::of(Path::parse(alloc, text)?).expect(rt, "no root"),
+        kind,
+    })
+}
+
+// Enters a file of these bytes into the draft. It answers whether each message was taken.
+fn send_file(
+    rt: &impl Abort,
+    alloc: Global,
+    link: &mut MemoryCloud,
+    text: &[u8],
+    bytes: &[u8],
+) -> Result<bool, Fail> {
+    let mut taken = link.send(&Msg::Object).is_ok();
+    if !bytes.is_empty() {
+        taken = taken && link.send(&part(rt, alloc, bytes)?).is_ok();
+    }
+    taken = taken && link.send(&Msg::Seal).is_ok();
+    Ok(taken && link.send(&enter(rt, alloc, text, Kind::File)?).is_ok())
+}
+
+fn begin(rt: &impl Abort, link: &mut MemoryCloud) -> bool {
+    let id = CloudId::of(FolderId::of([7; 16])).expect(rt, "an id");
+    let claimed = link.send(&Msg::Claim { id }).is_ok();
+    claimed && link.send(&Msg::Begin { epoch: epoch(rt) }).is_ok()
+}
+
+fn publish(rt: &impl Abort, link: &mut MemoryCloud) -> bool {
+    link.send(&Msg::Publish { epoch: epoch(rt) }).is_ok()
+}
+
+// Publishes the files `/f0` to `/f7999`, where a file has the four bytes of its number.
+fn publish_many(rt: &impl Abort, alloc: Global, link: &mut MemoryCloud) -> Result<bool, Fail> {
+    let mut taken = begin(rt, link);
+    for number in 0..8000u32 {
+        let text = format!(in alloc; "/f{number}")?;
+        taken = send_file(rt, alloc, link, text.as_bytes(), &number.to_le_bytes())? && taken;
+    }
+    Ok(taken && publish(rt, link))
+}
+
+// Asks in turn for the digests of the numbers 8000 to 8999, and for files of them. It answers how many were found.
+fn found_in_vain(synced: &Synced, digests: &[Digest], calls: u32) -> u64 {
+    let mut found: u64 = 0;
+    for i in 0..calls {
+        let place = (i % 1000) as usize;
+        if place < digests.len() {
+            if synced.find(&digests[place]).is_some() {
+                found = found.saturating_add(1);
+            }
+            if synced.same(4, &digests[place..place + 1]).is_some() {
+                found = found.saturating_add(1);
+            }
+        }
+    }
+    found
+}
+
+fn absent(alloc: Global) -> Result<Vec<Digest>, AllocError> {
+    let mut digests = Vec::new(alloc);
+    for number in 8000..9000u32 {
+        digests.push(digest_of(alloc, number)?)?;
+    }
+    Ok(digests)
+}
+
+// No clock is in it: a body that searches all files doesn't come to its end.
+#[test]
+fn twenty_million_look_ups(rt: HostRuntime) -> Result<(), Fail> {
+    let alloc = rt.alloc();
+    let mut link = MemoryCloud::new(alloc);
+    assert!(rt; publish_many(&rt, alloc, &mut link)?);
+    let synced = Synced::read(alloc, &mut link)?;
+    let last = digest_of(alloc, 7999)?;
+    let at = PublishedPage {
+        entry: 7777,
+        page: 0,
+    };
+    assert_eq!(rt; synced.find(&last), Some(at));
+    assert_eq!(rt; synced.same(4, &[last]), Some(7777));
+    let digests = absent(alloc)?;
+    assert_eq!(rt; found_in_vain(&synced, digests.as_slice(), 1_000), 0);
+    Ok(())
+}
+
+// A folder, two equal files, a file that is longer by a zero, and an empty file.
+fn publish_alike(rt: &impl Abort, alloc: Global, link: &mut MemoryCloud) -> Result<bool, Fail> {
+    let mut taken = begin(rt, link);
+    taken = taken && link.send(&enter(rt, alloc, b"/a", Kind::Folder)?).is_ok();
+    taken = send_file(rt, alloc, link, b"/b", &[1, 0])? && taken;
+    taken = send_file(rt, alloc, link, b"/c", &[1])? && taken;
+    taken = send_file(rt, alloc, link, b"/d", &[1])? && taken;
+    taken = send_file(rt, alloc, link, b"/e", &[])? && taken;
+    Ok(taken && publish(rt, link))
+}
+
+#[test]
+fn equal_files_and_equal_pages(rt: HostRuntime) -> Result<(), Fail> {
+    let alloc = rt.alloc();
+    let mut link = MemoryCloud::new(alloc);
+    assert!(rt; publish_alike(&rt, alloc, &mut link)?);
+    let synced = Synced::read(alloc, &mut link)?;
+    assert_eq!(rt; synced.info().entries, 5);
+    assert_eq!(rt; synced.entries().len(), 5);
+    let one = digest_of(alloc, 1)?;
+    let at = PublishedPage { entry: 1, page: 0 };
+    assert_eq!(rt; synced.find(&one), Some(at));
+    assert_eq!(rt; synced.same(2, &[one]), Some(1));
+    assert_eq!(rt; synced.same(1, &[one]), Some(2));
+    assert_eq!(rt; synced.same(3, &[one]), None);
+    assert_eq!(rt; synced.same(0, &[]), Some(4));
+    assert_eq!(rt; synced.find(&digest_of(alloc, 2)?), None);
+    Ok(())
+}
+
+// Each call of a reading fails in turn: whether the answer is that of a fault each time, and then Ok.
+fn fails_in_turn(alloc: Global, link: &mut MemoryCloud) -> Result<bool, AllocError> {
+    let mut faulted = true;
+    for nth in 1..7 {
+        link.fail_call(nth, false)?;
+        faulted = faulted && Synced::read(alloc, link).err() == Some(LinkError::Failed);
+    }
+    Ok(faulted && Synced::read(alloc, link).is_ok())
+}
+
+#[test]
+fn a_reading_fails_where_a_call_does(rt: HostRuntime) -> Result<(), Fail> {
+    let alloc = rt.alloc();
+    let mut link = MemoryCloud::new(alloc);
+    assert!(rt; publish_alike(&rt, alloc, &mut link)?);
+    assert!(rt; fails_in_turn(alloc, &mut link)?);
+    Ok(())
+}
