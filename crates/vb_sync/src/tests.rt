@@ -32,40 +32,68 @@ fn enter(rt: &impl Abort, alloc: Global, text: &[u8], kind: Kind) -> Result<Msg,
     })
 }
 
-// Enters a file of these bytes into the draft. It answers whether each message was taken.
+fn send_part(
+    rt: &impl Abort,
+    alloc: Global,
+    link: &mut MemoryCloud,
+    bytes: &[u8],
+) -> Result<(), Fail> {
+    let msg = part(rt, alloc, bytes)?;
+    link.send(&msg)?;
+    Ok(())
+}
+
+fn send_entry(
+    rt: &impl Abort,
+    alloc: Global,
+    link: &mut MemoryCloud,
+    text: &[u8],
+    kind: Kind,
+) -> Result<(), Fail> {
+    let msg = enter(rt, alloc, text, kind)?;
+    link.send(&msg)?;
+    Ok(())
+}
+
+// Enters a file of these bytes, of which there are some, into the draft.
 fn send_file(
     rt: &impl Abort,
     alloc: Global,
     link: &mut MemoryCloud,
     text: &[u8],
     bytes: &[u8],
-) -> Result<bool, Fail> {
-    let mut taken = link.send(&Msg::Object).is_ok();
-    if !bytes.is_empty() {
-        taken = taken && link.send(&part(rt, alloc, bytes)?).is_ok();
-    }
-    taken = taken && link.send(&Msg::Seal).is_ok();
-    Ok(taken && link.send(&enter(rt, alloc, text, Kind::File)?).is_ok())
+) -> Result<(), Fail> {
+    link.send(&Msg::Object)?;
+    send_part(rt, alloc, link, bytes)?;
+    link.send(&Msg::Seal)?;
+    send_entry(rt, alloc, link, text, Kind::File)
 }
 
-fn begin(rt: &impl Abort, link: &mut MemoryCloud) -> bool {
+fn begin(rt: &impl Abort, link: &mut MemoryCloud) -> Result<(), Fail> {
     let id = CloudId::of(FolderId::of([7; 16])).expect(rt, "an id");
-    let claimed = link.send(&Msg::Claim { id }).is_ok();
-    claimed && link.send(&Msg::Begin { epoch: epoch(rt) }).is_ok()
+    link.send(&Msg::Claim { id })?;
+    link.send(&Msg::Begin { epoch: epoch(rt) })?;
+    Ok(())
 }
 
-fn publish(rt: &impl Abort, link: &mut MemoryCloud) -> bool {
-    link.send(&Msg::Publish { epoch: epoch(rt) }).is_ok()
+fn send_numbered(
+    rt: &impl Abort,
+    alloc: Global,
+    link: &mut MemoryCloud,
+    number: u32,
+) -> Result<(), Fail> {
+    let text = format!(in alloc; "/f{number}")?;
+    send_file(rt, alloc, link, text.as_bytes(), &number.to_le_bytes())
 }
 
 // Publishes the files `/f0` to `/f7999`, where a file has the four bytes of its number.
-fn publish_many(rt: &impl Abort, alloc: Global, link: &mut MemoryCloud) -> Result<bool, Fail> {
-    let mut taken = begin(rt, link);
+fn publish_many(rt: &impl Abort, alloc: Global, link: &mut MemoryCloud) -> Result<(), Fail> {
+    begin(rt, link)?;
     for number in 0..8000u32 {
-        let text = format!(in alloc; "/f{number}")?;
-        taken = send_file(rt, alloc, link, text.as_bytes(), &number.to_le_bytes())? && taken;
+        send_numbered(rt, alloc, link, number)?;
     }
-    Ok(taken && publish(rt, link))
+    link.send(&Msg::Publish { epoch: epoch(rt) })?;
+    Ok(())
 }
 
 // Asks in turn for the digests of the numbers 8000 to 8999, and for files of them. It answers how many were found.
@@ -98,47 +126,51 @@ fn absent(alloc: Global) -> Result<Vec<Digest>, AllocError> {
 fn two_million_look_ups(rt: HostRuntime) -> Result<(), Fail> {
     let alloc = rt.alloc();
     let mut link = MemoryCloud::new(alloc);
-    assert!(rt; publish_many(&rt, alloc, &mut link)?);
-    let synced = Synced::read(alloc, &mut link)?;
+    publish_many(&rt, alloc, &mut link)?;
     let last = digest_of(alloc, 7999)?;
+    let digests = absent(alloc)?;
     let at = PublishedPage {
         entry: 7777,
         page: 0,
     };
+    let synced = Synced::read(alloc, &mut link)?;
     assert_eq!(rt; synced.find(&last), Some(at));
     assert_eq!(rt; synced.same(4, &[last]), Some(7777));
-    let digests = absent(alloc)?;
     assert_eq!(rt; found_in_vain(&synced, digests.as_slice(), 1_000_000), 0);
     Ok(())
 }
 
-// A folder, two equal files, a file that is longer by a zero, and an empty file.
-fn publish_alike(rt: &impl Abort, alloc: Global, link: &mut MemoryCloud) -> Result<bool, Fail> {
-    let mut taken = begin(rt, link);
-    taken = taken && link.send(&enter(rt, alloc, b"/a", Kind::Folder)?).is_ok();
-    taken = send_file(rt, alloc, link, b"/b", &[1, 0])? && taken;
-    taken = send_file(rt, alloc, link, b"/c", &[1])? && taken;
-    taken = send_file(rt, alloc, link, b"/d", &[1])? && taken;
-    taken = send_file(rt, alloc, link, b"/e", &[])? && taken;
-    Ok(taken && publish(rt, link))
+// A folder, a file, two equal files that are shorter by a zero, and an empty file.
+fn publish_alike(rt: &impl Abort, alloc: Global, link: &mut MemoryCloud) -> Result<(), Fail> {
+    begin(rt, link)?;
+    send_entry(rt, alloc, link, b"/a", Kind::Folder)?;
+    send_file(rt, alloc, link, b"/b", &[1, 0])?;
+    send_file(rt, alloc, link, b"/c", &[1])?;
+    send_file(rt, alloc, link, b"/d", &[1])?;
+    link.send(&Msg::Object)?;
+    link.send(&Msg::Seal)?;
+    send_entry(rt, alloc, link, b"/e", Kind::File)?;
+    link.send(&Msg::Publish { epoch: epoch(rt) })?;
+    Ok(())
 }
 
 #[test]
 fn equal_files_and_equal_pages(rt: HostRuntime) -> Result<(), Fail> {
     let alloc = rt.alloc();
     let mut link = MemoryCloud::new(alloc);
-    assert!(rt; publish_alike(&rt, alloc, &mut link)?);
+    publish_alike(&rt, alloc, &mut link)?;
+    let one = digest_of(alloc, 1)?;
+    let two = digest_of(alloc, 2)?;
+    let at = PublishedPage { entry: 1, page: 0 };
     let synced = Synced::read(alloc, &mut link)?;
     assert_eq!(rt; synced.info().entries, 5);
     assert_eq!(rt; synced.entries().len(), 5);
-    let one = digest_of(alloc, 1)?;
-    let at = PublishedPage { entry: 1, page: 0 };
     assert_eq!(rt; synced.find(&one), Some(at));
     assert_eq!(rt; synced.same(2, &[one]), Some(1));
     assert_eq!(rt; synced.same(1, &[one]), Some(2));
     assert_eq!(rt; synced.same(3, &[one]), None);
     assert_eq!(rt; synced.same(0, &[]), Some(4));
-    assert_eq!(rt; synced.find(&digest_of(alloc, 2)?), None);
+    assert_eq!(rt; synced.find(&two), None);
     Ok(())
 }
 
@@ -156,7 +188,7 @@ fn fails_in_turn(alloc: Global, link: &mut MemoryCloud) -> Result<bool, AllocErr
 fn a_reading_fails_where_a_call_does(rt: HostRuntime) -> Result<(), Fail> {
     let alloc = rt.alloc();
     let mut link = MemoryCloud::new(alloc);
-    assert!(rt; publish_alike(&rt, alloc, &mut link)?);
+    publish_alike(&rt, alloc, &mut link)?;
     assert!(rt; fails_in_turn(alloc, &mut link)?);
     Ok(())
 }
