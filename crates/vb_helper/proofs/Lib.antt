@@ -1,2 +1,4 @@
 pub mod Mending
 pub mod Fetched
+pub mod Following
+pub mod Treating
