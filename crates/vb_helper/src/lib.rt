@@ -2,12 +2,14 @@
 #![tactic(auto)]
 
 mod following_page;
+mod laws;
 mod refetch_error;
 mod repairing;
 mod scrub;
 mod scrub_answers;
 
 pub use following_page::{DuePage, Treated};
+pub use laws::a_view_is_in_path_order;
 pub use refetch_error::RefetchError;
 pub use repairing::{Refetched, refetch};
 pub use scrub::Scrub;
