@@ -1,9 +1,6 @@
--- A step of a scrub says what fetching its page back says.
+-- What a step of a scrub says where it found no memory before any call.
 use Rattle.std.proofs.Common.{◌≡◌, ℕ, List, Option, Some, refl, sym, ap, ◌∙◌, subst}
 use Rattle.std.specs.Prelude.{Result, Err}
-use Rattle.vb_cause.specs.Causes.{HasCause, UsesFailures}
-use Rattle.vb_helper.specs.declared.repairing.Refetched.{Refetched}
-use Rattle.vb_helper.specs.declared.refetch_error.RefetchError.{RefetchError}
 use Rattle.vb_helper.specs.declared.refetch_error.RefetchError.TheVariants as errors
 use Rattle.vb_helper.specs.declared.scrub_answers.ScrubStep.{ScrubStep}
 use Rattle.vb_helper.specs.declared.scrub_answers.ScrubError.{ScrubError}
@@ -18,18 +15,8 @@ use Rattle.vb_link.specs.declared.view.ViewEntry.{ViewEntry}
 use Rattle.vb_helper.specs.declared.following_page.Treated.{Treated}
 use Rattle.vb_helper.specs.declared.following_page.DuePage.{DuePage}
 use Rattle.vb_helper.specs.Repairs.{AtStart}
-use Rattle.vb_helper.specs.Scrubs.{refetched_of, Around, Treats}
+use Rattle.vb_helper.specs.Scrubs.{Around, Treats}
 use Rattle.vb_helper.proofs.Mending.{spares_of, moments_of}
-
-module _ (result : Result ScrubStep ScrubError) (came : Result Refetched RefetchError) (same : refetched_of result ≡ came) where
-  pub disk_cause : (before after : ℕ) → HasCause errors.DiskFault before after came → HasCause scrub_errors.DiskFault before after result
-  disk_cause before after h = record { kept = h.kept; failed = λ is. h.failed (sym same ∙ ap refetched_of is) }
-
-  pub link_cause : (before after : ℕ) → HasCause errors.LinkFault before after came → HasCause scrub_errors.LinkFault before after result
-  link_cause before after h = record { kept = h.kept; failed = λ is. h.failed (sym same ∙ ap refetched_of is) }
-
-  pub disk_left : (before after : Option ℕ) → UsesFailures errors.DiskFault before after came → UsesFailures scrub_errors.DiskFault before after result
-  disk_left before after h = record { told = h.told; kept = h.kept; used = λ some is. h.used some (sym same ∙ ap refetched_of is) }
 
 -- memory ran out before any call
 pub treats_memory : (order : List FrozenEntry) (at : DuePage) (entries : List ViewEntry) (told : Option DiskState) (cloud : Option CloudState) (disk_calls link_calls : ℕ) (old : Option Treated) (e : FrozenEntry) (reference : Ref)

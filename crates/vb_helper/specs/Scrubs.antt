@@ -1,5 +1,5 @@
 -- A scrub: which page of a view is due, and what treating it answers.
-use Rattle.std.specs.Prelude.{◌≡◌, ℕ, ◌+◌, ◌<◌, nat_lt, if◌then◌else◌, List, [], ◌∷◌, length, slice_get, get_or, Option, Some, None, Result, Ok, Err}
+use Rattle.std.specs.Prelude.{◌≡◌, ℕ, ◌+◌, ◌<◌, nat_lt, if◌then◌else◌, List, [], ◌∷◌, length, slice_get, get_or, Option, Some, None, Result, Ok, Err, IsErrOf}
 use Rattle.std.specs.Option.{option_and_then, option_map}
 use Rattle.std.specs.declared.cmp.Ordering.{Ordering}
 use Rattle.std.specs.declared.cmp.Ordering.TheVariants.{Less, Equal, Greater}
@@ -19,6 +19,7 @@ use Rattle.vb_cloud.specs.Machine.{CloudState}
 use Rattle.vb_disk.specs.Moments.{EachMoment}
 use Rattle.vb_disk.specs.States.{DiskState}
 use Rattle.vb_link.specs.declared.view.ViewEntry.{ViewEntry}
+use Rattle.vb_link.specs.Views.{LinkView}
 use Rattle.vb_helper.specs.Repairs.{AnswersBy, CallCounts, LeavesDisk, MakesCalls, Spares, IsRepaired}
 use Rattle.vb_helper.specs.declared.following_page.Treated.{Treated}
 use Rattle.vb_helper.specs.declared.following_page.DuePage.{DuePage}
@@ -121,3 +122,7 @@ pub record StaysStill (around : Around) : Type 0 where
   pub disk : around.disk_new ≡ around.disk_old
   pub disk_calls : around.counts.disk_new ≡ around.counts.disk_old
   pub link_calls : around.counts.link_new ≡ around.counts.link_old
+
+-- what was shown still is, unless the link failed
+abbrev pub ShowsOnBeside : Option LinkView → Option LinkView → Result ScrubStep ScrubError → Type 0
+ShowsOnBeside before after result = (v : LinkView) → before ≡ Some v → (IsErrOf result scrub_errors.LinkFault → ⊥) → after ≡ Some v

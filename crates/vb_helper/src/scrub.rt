@@ -6,7 +6,9 @@ ghost use Rattle.vb_link.specs.Links.{KeepsFailures};
 ghost use Rattle.vb_frozen.specs.declared.entry.FrozenEntry.{FrozenEntry as Entry};
 ghost use Rattle.vb_helper.specs.declared.following_page.DuePage.{DuePage as Due};
 ghost use Rattle.vb_helper.specs.Repairs.{CallCounts};
-ghost use Rattle.vb_helper.specs.Scrubs.{IsInPathOrder, next_page, ref_at, refetched_of, NamesPage, treated_after, Around, Treats, StaysStill};
+ghost use Rattle.vb_helper.specs.Scrubs.{IsInPathOrder, next_page, ref_at, refetched_of, NamesPage, treated_after, Around, Treats, StaysStill, ShowsOnBeside};
+ghost use Rattle.vb_cloud.specs.Machine.{CloudState};
+ghost use Rattle.vb_link.specs.Views.{view_of};
 
 use crate::following_page::next_page;
 use crate::scrub_answers::{fault_of, loss_of};
@@ -66,8 +68,11 @@ impl Scrub {
         ensures left { UsesFailures ScrubError.DiskFault (D.failures_left disk.old) (D.failures_left disk.new) result }
         ensures cloud { K.told link.new ≡ K.told link.old }
         ensures sent { K.sends link.new ≡ K.sends link.old }
+        ensures shown { ShowsOnBeside (K.shown link.old) (K.shown link.new) result }
         ensures link_cause { HasCause ScrubError.LinkFault (K.faults link.old) (K.faults link.new) result }
         ensures link_kept { KeepsFailures (K.failures_left link.old) (K.failures_left link.new) }
+        ensures link_left { (k : CloudState) → K.told link.old ≡ Some k → synced.now ≡ view_of k
+            → UsesFailures ScrubError.LinkFault (K.failures_left link.old) (K.failures_left link.new) result }
     {
         match next_page(order.slice(), &self.treated) {
             Some(due) => self.treat(alloc, order, due, disk, link, synced),
@@ -101,8 +106,11 @@ impl Scrub {
         ensures left { UsesFailures ScrubError.DiskFault (D.failures_left disk.old) (D.failures_left disk.new) result }
         ensures cloud { K.told link.new ≡ K.told link.old }
         ensures sent { K.sends link.new ≡ K.sends link.old }
+        ensures shown { ShowsOnBeside (K.shown link.old) (K.shown link.new) result }
         ensures link_cause { HasCause ScrubError.LinkFault (K.faults link.old) (K.faults link.new) result }
         ensures link_kept { KeepsFailures (K.failures_left link.old) (K.failures_left link.new) }
+        ensures link_left { (k : CloudState) → K.told link.old ≡ Some k → synced.now ≡ view_of k
+            → UsesFailures ScrubError.LinkFault (K.failures_left link.old) (K.failures_left link.new) result }
     {
         let entry = order.entry(due.entry);
         let reference = entry.refs.get(due.page as usize);
