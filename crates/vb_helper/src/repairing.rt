@@ -9,7 +9,8 @@ ghost use Rattle.vb_steps.specs.Steps.{CallsOnce};
 ghost use Rattle.vb_link.specs.Links.{KeepsFailures};
 ghost use Rattle.vb_link.specs.Views.{view_of};
 ghost use Rattle.vb_sync.specs.Published.{first_page};
-ghost use Rattle.vb_helper.specs.Repairs.{AnswersBy, LeavesDisk, MakesCalls, ShowsUnlessFault, Spares, IsMissed, IsRepaired, CallCounts, FindsOther, ReadsDue};
+ghost use Rattle.vb_helper.specs.Repairs.{AnswersBy, LeavesDisk, MakesCalls, ShowsUnlessFault};
+ghost use Rattle.vb_helper.specs.Repairs.{Spares, IsMissed, IsRepaired, CallCounts, FindsOther, ReadsDue};
 
 use crate::RefetchError;
 use std::alloc::Global;
@@ -43,7 +44,12 @@ pub fn refetch<D: Disk, K: Link>(
     ensures spares { (d e : DiskState) → D.told disk.old ≡ Some d → D.told disk.new ≡ Some e → Spares reference.now d e }
     ensures moments { (d e : DiskState) → D.told disk.old ≡ Some d → D.told disk.new ≡ Some e → EachMoment (Spares reference.now d) d e }
     ensures repaired { (d e : DiskState) → D.told disk.old ≡ Some d → D.told disk.new ≡ Some e → IsRepaired reference.now e result }
-    ensures calls { MakesCalls (record { disk_old = D.calls disk.old; disk_new = D.calls disk.new; link_old = K.calls link.old; link_new = K.calls link.new }) result }
+    ensures calls { MakesCalls (record {
+      disk_old = D.calls disk.old;
+      disk_new = D.calls disk.new;
+      link_old = K.calls link.old;
+      link_new = K.calls link.new;
+    }) result }
     ensures untold { D.told disk.old ≡ None → D.told disk.new ≡ None }
     ensures seen { D.seen disk.new ≡ D.seen disk.old }
     ensures cause { HasCause RefetchError.DiskFault (D.faults disk.old) (D.faults disk.new) result }
@@ -73,7 +79,12 @@ fn read_or_repair<D: Disk, K: Link>(
     ensures answer { AnswersBy synced.now.entries reference.now result }
     ensures disk { (d : DiskState) → D.told disk.old ≡ Some d
         → LeavesDisk reference.now synced.now.entries (K.told link.old) d (D.told disk.new) result }
-    ensures calls { MakesCalls (record { disk_old = D.calls disk.old; disk_new = D.calls disk.new; link_old = K.calls link.old; link_new = K.calls link.new }) result }
+    ensures calls { MakesCalls (record {
+      disk_old = D.calls disk.old;
+      disk_new = D.calls disk.new;
+      link_old = K.calls link.old;
+      link_new = K.calls link.new;
+    }) result }
     ensures untold { D.told disk.old ≡ None → D.told disk.new ≡ None }
     ensures seen { D.seen disk.new ≡ D.seen disk.old }
     ensures cause { HasCause RefetchError.DiskFault (D.faults disk.old) (D.faults disk.new) result }
@@ -138,7 +149,12 @@ fn repair<D: Disk, K: Link>(
     ensures answer { AnswersBy synced.now.entries reference.now result }
     ensures disk { (d : DiskState) → D.told disk.old ≡ Some d
         → LeavesDisk reference.now synced.now.entries (K.told link.old) d (D.told disk.new) result }
-    ensures calls { (before : ℕ) → D.calls disk.old ≡ counted before → MakesCalls (record { disk_old = before; disk_new = D.calls disk.new; link_old = K.calls link.old; link_new = K.calls link.new }) result }
+    ensures calls { (before : ℕ) → D.calls disk.old ≡ counted before → MakesCalls (record {
+      disk_old = before;
+      disk_new = D.calls disk.new;
+      link_old = K.calls link.old;
+      link_new = K.calls link.new;
+    }) result }
     ensures untold { D.told disk.old ≡ None → D.told disk.new ≡ None }
     ensures seen { D.seen disk.new ≡ D.seen disk.old }
     ensures cause { HasCause RefetchError.DiskFault (D.faults disk.old) (D.faults disk.new) result }

@@ -6,7 +6,8 @@ ghost use Rattle.vb_link.specs.Links.{KeepsFailures};
 ghost use Rattle.vb_frozen.specs.declared.entry.FrozenEntry.{FrozenEntry as Entry};
 ghost use Rattle.vb_helper.specs.declared.following_page.DuePage.{DuePage as Due};
 ghost use Rattle.vb_helper.specs.Repairs.{CallCounts};
-ghost use Rattle.vb_helper.specs.Scrubs.{IsInPathOrder, next_page, ref_at, refetched_of, NamesPage, treated_after, Around, Treats, StaysStill, ShowsOnBeside};
+ghost use Rattle.vb_helper.specs.Scrubs.{IsInPathOrder, next_page, ref_at, refetched_of};
+ghost use Rattle.vb_helper.specs.Scrubs.{NamesPage, treated_after, Around, Treats, StaysStill, ShowsOnBeside};
 ghost use Rattle.vb_cloud.specs.Machine.{CloudState};
 ghost use Rattle.vb_link.specs.Views.{view_of};
 

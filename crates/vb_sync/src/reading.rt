@@ -19,7 +19,8 @@ pub fn list_entries<K: Link>(
 ) -> Result<Listing, LinkError>
     requires described { option_map info_of (K.shown link.old) ≡ Some info.now }
     requires counted { K.calls link.old ≤ greatest_count }
-    ensures view { IfOk result (λ listing. K.shown link.new ≡ Some (record { id = info.now.id; epoch = info.now.epoch; entries = listing.entries })) }
+    ensures view { IfOk result (λ listing.
+        K.shown link.new ≡ Some (record { id = info.now.id; epoch = info.now.epoch; entries = listing.entries })) }
     ensures index { IfOk result (λ listing. IsIndex listing.entries listing.pages.entries listing.contents.entries listing.files.entries) }
     ensures described { OnOk result (option_map info_of (K.shown link.new) ≡ Some info.now) }
     ensures stays { ShowsOn (K.shown link.old) (K.shown link.new) result }
