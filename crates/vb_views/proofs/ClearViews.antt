@@ -1,15 +1,17 @@
 -- A disk on which nothing that counts is hurt is clear.
-use Rattle.std.proofs.Common.{◌≡◌, ℕ, ◌+◌, ◌*◌, Bool, true, false, List, [], refl, subst, inl, inr}
+use Rattle.std.proofs.Common.{◌≡◌, ℕ, ◌+◌, ◌*◌, Bool, true, false, List, [], get_or, refl, subst, inl, inr}
 use Rattle.std.specs.List.{Contains}
 use Rattle.vb_disk.specs.declared.cell.Cell.{Cell}
 use Rattle.vb_disk.specs.States.{DiskState, IsDiskState}
+use Rattle.vb_geometry.specs.Layout.{home_place, journal_place}
 use Rattle.vb_head.specs.declared.head.Head.{Head}
 use Rattle.vb_index.specs.Contents.{HasTree}
 use Rattle.vb_index.specs.Indexes.{IndexState}
 use Rattle.vb_journal.specs.declared.commit_stage.Stage.{Stage}
 use Rattle.vb_journal.specs.declared.commit_stage.Stage.TheVariants.{Journal, Opening, Homes, Closing, Rested}
 use Rattle.vb_journal.specs.Plans.{closed_head}
-use Rattle.vb_journal.specs.Progress.{HasSameCandidates, IsUnharmed, new_images}
+use Rattle.vb_journal.specs.Images.{image_at, slot_of}
+use Rattle.vb_journal.specs.Progress.{HasSameCandidates, IsUnharmed, IsWholeAt, heads_needed, new_images}
 use Rattle.vb_journal.proofs.Keeping.{IsAtRest-same, IsCommitting-same}
 use Rattle.vb_store.specs.Clear.{IsClear, RecoversTree, first_candidates, taken_as, taken_cell}
 use Rattle.vb_store.specs.Recovered.{Recovers}
@@ -25,8 +27,7 @@ use Rattle.vb_views.proofs.ViewsHeld.{holds-kept}
 use Rattle.vb_views.proofs.ViewsInPlace.{rest-holds}
 use Rattle.vb_views.proofs.WholeViews.{IsWholeCommit, crash-recovers, crashed-recovers}
 use Rattle.vb_journal.specs.Outcomes.{RecoversWholly}
-use Rattle.vb_journal.proofs.AfterCrashes.{EachCrashStays-rest}
-use Rattle.vb_journal.proofs.Unharmed.{RecoversWholly-rest}
+use Rattle.vb_journal.proofs.UnharmedCrashes.{RecoversWholly-rest}
 
 -- ---- some places taken as whole
 
@@ -47,9 +48,13 @@ whole_taken whole index d are place named =
 
 unharmed_taken : (whole : ℕ → Bool) (head : Head) (images : List (List ℕ)) (stage : Stage) (d : DiskState) → IsUnharmed head images stage d → IsUnharmed head images stage (taken_as whole d)
 unharmed_taken whole head images stage d is = record {
-  heads_and_homes = λ place below. hurt-taken (whole place) (d.cells place) (is.heads_and_homes place below);
-  in_journal = λ i below. hurt-taken (whole (2 + head.nodes + i)) (d.cells (2 + head.nodes + i)) (is.in_journal i below);
-}
+  heads = λ k e within. at (get_or (heads_needed stage) k e) (is.heads k e within);
+  in_journal = λ i below. at (journal_place head.nodes i) (is.in_journal i below);
+  at_home = λ i below needed. at (home_place (slot_of (image_at images i))) (is.at_home i below needed);
+  others = λ slot below unnamed. at (home_place slot) (is.others slot below unnamed);
+} where
+  at : (place : ℕ) → IsWholeAt d place → IsWholeAt (taken_as whole d) place
+  at place is_whole = hurt-taken (whole place) (d.cells place) is_whole
 
 view_taken : (whole : ℕ → Bool) (head : Head) (index : IndexState) (blocks : ℕ → List ℕ) (tree : List TreeEntry) (d : DiskState) → HoldsView head index blocks tree d → HoldsView head index blocks tree (taken_as whole d)
 view_taken whole head index blocks tree d v = holds-kept head index blocks tree d (taken_as whole d) refl (keeps_taken whole index d) v
@@ -98,8 +103,8 @@ pub clear-rest : (head : Head) (index : IndexState) (d : DiskState) (tree : List
 clear-rest head index d tree is disk rests has unharmed are whole new crash =
     let t : DiskState = taken_as whole d in
     let wholly : RecoversWholly new head rests.homes =
-    RecoversWholly-rest head rests.homes t new (unharmed_taken whole head [] Rested d unharmed)
-    (EachCrashStays-rest head rests.homes rests.journal t is.can.range is.can.closed (IsDiskState-taken whole d disk)
-    (IsAtRest-same head rests.homes rests.journal d t (same_taken whole (2 + 2 * head.nodes) d) rests.rests)) crash in
+    RecoversWholly-rest head rests.homes rests.journal t new is.can.range is.can.closed (IsDiskState-taken whole d disk)
+    (IsAtRest-same head rests.homes rests.journal d t (same_taken whole (2 + 2 * head.nodes) d) rests.rests)
+    (unharmed_taken whole head [] Rested d unharmed) crash in
     tree_at head.epoch tree new
     (crashed-recovers head index rests.homes tree t new (view_taken whole head index rests.homes tree d (rest-holds head index d tree is rests has)) (whole_taken whole index d are) crash wholly)

@@ -20,11 +20,10 @@ use Rattle.vb_journal.specs.Plans.{CanGoOn, closed_head}
 use Rattle.vb_journal.specs.Progress.{IsCommitting, IsUnharmed, new_images}
 use Rattle.vb_journal.specs.Recoveries.{Recovered}
 use Rattle.vb_journal.specs.Shown.{pages_from}
-use Rattle.vb_journal.proofs.AfterCrashes.{EachCrashRecovers-stage, EachCrashStays-rest}
 use Rattle.vb_journal.proofs.ChoicesOf.{IsChoiceOf-crash}
 use Rattle.vb_journal.proofs.ChosenDisks.{EachChoiceStays-journal}
 use Rattle.vb_journal.proofs.Settled.{read_of-alone, read_of-crashed}
-use Rattle.vb_journal.proofs.Unharmed.{EachCrashRecoversWholly-unharmed, RecoversWholly-rest}
+use Rattle.vb_journal.proofs.UnharmedCrashes.{EachCrashRecoversWholly-stage, RecoversWholly-rest}
 use Rattle.vb_store.specs.Clear.{first_candidates}
 use Rattle.vb_store.specs.Recovered.{Recovers}
 use Rattle.vb_store.specs.RecoveredStores.{recovered_on}
@@ -101,29 +100,29 @@ pub record IsWholeCommit (head : Head) (epoch : ℕ) (images : List (List ℕ)) 
 
 pub crash-recovers : (head : Head) (epoch : ℕ) (images : List (List ℕ)) (homes journal : ℕ → List ℕ) (stage : Stage) (d new : DiskState) (old : IndexState) (tree : List TreeEntry) (index : IndexState) (after : List TreeEntry) → IsWholeCommit head epoch images homes journal stage d → HoldsViewsAt head epoch images homes stage old tree index after d → HasWholePlacesAt stage old index d → MayCrashTo d new → RecoversAt stage head.epoch tree epoch after new
 crash-recovers head epoch images homes journal (Journal next) d new old tree index after c holds whole crash =
-    let each = EachCrashRecoversWholly-unharmed head epoch images homes (Journal next) d c.unharmed (EachCrashRecovers-stage head epoch images homes journal (Journal next) d c.can c.disk c.known) new crash in
+    let each = EachCrashRecoversWholly-stage head epoch images homes journal (Journal next) d c.can c.disk c.known c.unharmed new crash in
     elim each [
       | inl before ↦ crashed-recovers head old homes tree d new holds whole crash before
       | inr later ↦ absurd (not_yet head epoch images homes new (EachChoiceStays-journal head epoch images homes journal next d c.can c.known new (IsChoiceOf-crash d new c.disk crash)) later)
     ]
 crash-recovers head epoch images homes journal (Opening turn) d new old tree index after c holds whole crash =
-    let each = EachCrashRecoversWholly-unharmed head epoch images homes (Opening turn) d c.unharmed (EachCrashRecovers-stage head epoch images homes journal (Opening turn) d c.can c.disk c.known) new crash in
+    let each = EachCrashRecoversWholly-stage head epoch images homes journal (Opening turn) d c.can c.disk c.known c.unharmed new crash in
     elim each [
       | inl before ↦ inl (crashed-recovers head old homes tree d new holds.0 whole.0 crash before)
       | inr later ↦ inr (crashed-recovers (closed_head head epoch) index (new_images images homes) after d new holds.1 whole.1 crash later)
     ]
 crash-recovers head epoch images homes journal (Homes next) d new old tree index after c holds whole crash =
     crashed-recovers (closed_head head epoch) index (new_images images homes) after d new holds whole crash
-    (EachCrashRecoversWholly-unharmed head epoch images homes (Homes next) d c.unharmed (EachCrashRecovers-stage head epoch images homes journal (Homes next) d c.can c.disk c.known) new crash)
+    (EachCrashRecoversWholly-stage head epoch images homes journal (Homes next) d c.can c.disk c.known c.unharmed new crash)
 crash-recovers head epoch images homes journal (Closing turn) d new old tree index after c holds whole crash =
     crashed-recovers (closed_head head epoch) index (new_images images homes) after d new holds whole crash
-    (EachCrashRecoversWholly-unharmed head epoch images homes (Closing turn) d c.unharmed (EachCrashRecovers-stage head epoch images homes journal (Closing turn) d c.can c.disk c.known) new crash)
+    (EachCrashRecoversWholly-stage head epoch images homes journal (Closing turn) d c.can c.disk c.known c.unharmed new crash)
 crash-recovers head epoch images homes journal Rested d new old tree index after c holds whole crash =
     crashed-recovers (closed_head head epoch) index (new_images images homes) after d new holds whole crash
-    (EachCrashRecoversWholly-unharmed head epoch images homes Rested d c.unharmed (EachCrashRecovers-stage head epoch images homes journal Rested d c.can c.disk c.known) new crash)
+    (EachCrashRecoversWholly-stage head epoch images homes journal Rested d c.can c.disk c.known c.unharmed new crash)
 
 -- so it is at rest
 pub rest-recovers : (head : Head) (index : IndexState) (d new : DiskState) (tree : List TreeEntry) → IsViewOf head index → IsDiskState d → IsAtRestFor head index d → HasTree index.nodes (pages_by (first_candidates d) index.nodes) tree → IsUnharmed head [] Rested d → HasWholePlaces index d → MayCrashTo d new → recovered_on new ≡ Recovers head.epoch tree
 rest-recovers head index d new tree is disk rests has unharmed whole crash =
     crashed-recovers head index rests.homes tree d new (rest-holds head index d tree is rests has) whole crash
-    (RecoversWholly-rest head rests.homes d new unharmed (EachCrashStays-rest head rests.homes rests.journal d is.can.range is.can.closed disk rests.rests) crash)
+    (RecoversWholly-rest head rests.homes rests.journal d new is.can.range is.can.closed disk rests.rests unharmed crash)
