@@ -1,0 +1,4 @@
+pub mod Blanks
+pub mod Settled
+pub mod Planned
+pub mod Frozen

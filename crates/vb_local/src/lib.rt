@@ -1,0 +1,10 @@
+// The folder on its disk: its live, frozen and committed view, and the commit that is on.
+#![tactic(auto)]
+
+mod laws;
+
+pub use laws::{
+    a_freeze_can_be_committed, a_plan_has_the_frozen_pages, a_rested_commit_is_relied_on,
+    a_settled_page_is_relied_on, a_settled_page_leaves_the_live_tree, an_operation_keeps_limits,
+    an_operation_relies_on_no_more, nodes_have_a_tree,
+};
