@@ -192,3 +192,13 @@ plan-under v frozen is none over = record {
       ap (option_map (λ (r : Ref). r.digest)) has.at ∙ ap Some due.0);
   kept = all-kept frozen.pages (basis_at v) 0 (next_of frozen.order frozen.pages) (next-sourced frozen.pages frozen.order);
 }
+
+-- a page that it keeps in memory is among the pages to write, at its reference
+pub page-written : (v : ViewState) (frozen : FrozenState) (slot page : ℕ) (bytes : List ℕ) (reference : Ref) → IsView v → HasNoneBegun v → IsFrozenOver v.index frozen → kept_page frozen.pages slot page ≡ Some bytes → ref_at (slots_next (basis_at v) (next_of frozen.order frozen.pages)) slot page ≡ Some reference → Contains (plan_of (basis_at v) (next_of frozen.order frozen.pages)).pages (data_page slot page reference)
+page-written v frozen slot page bytes reference is none over kept at =
+    let some = some_of (ref_in frozen.order slot page) (over.entries slot page (ap is_some kept)) in
+    let has = next-ref v frozen slot page some.0 is none over some.1 in
+    let due = subst (λ (o : Option (List ℕ)). HasReference (plan_of (basis_at v) (next_of frozen.order frozen.pages)).pages (data_page slot page) (source_of o some.0) has.reference) kept has.is in
+    let both : Some has.reference ≡ Some reference = sym has.at ∙ at in
+    let same : has.reference ≡ reference = cc both in
+    subst (λ (r : Ref). Contains (plan_of (basis_at v) (next_of frozen.order frozen.pages)).pages (data_page slot page r)) same due.1

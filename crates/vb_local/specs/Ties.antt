@@ -1,5 +1,5 @@
 -- How the views in memory hang together: the live one, the frozen one, and the committed and the next nodes.
-use Rattle.std.specs.Prelude.{◌≡◌, ℕ, ◌≤◌, List, slice_get, Option, Some, None, IsSome}
+use Rattle.std.specs.Prelude.{◌≡◌, ℕ, ◌≤◌, List, [], ◌∷◌, slice_get, Option, Some, None, IsSome, unwrap_or}
 use Rattle.std.specs.List.{All}
 use Rattle.std.specs.Option.{option_map}
 use Rattle.sha2.specs.Sha256.{sha256}
@@ -91,3 +91,15 @@ pub record IsFrozenUnder (next : List (Option Held)) (left : List PlanPage) (fro
   pub relies : FrozenRelies next frozen
   pub digests : HaveDigests next frozen
   pub kept : All (IsKeptIn frozen.pages) left
+
+-- ---- the pages of a commit
+
+-- the page of data that is given where the first of these pages is written, and none where that is none of data
+abbrev pub given_of : List PlanPage → FrozenState → Option (List ℕ)
+given_of [] frozen = None
+given_of (Data slot page r ∷ left) frozen = kept_page frozen.pages slot page
+given_of (Map place image ∷ left) frozen = None
+
+-- the pages of data of a commit by slot and number: those that the frozen view keeps in memory
+abbrev pub source_in : FrozenState → ℕ → ℕ → List ℕ
+source_in frozen slot page = unwrap_or (kept_page frozen.pages slot page) []

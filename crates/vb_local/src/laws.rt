@@ -1,6 +1,6 @@
 // Laws of the views in memory, each the contract of a function that does nothing.
 ghost use Rattle.std.specs.Prelude.{◌≡◌, ◌≤◌, ℕ, List, Option, Some, length, slice_set, Result};
-ghost use Rattle.std.specs.List.{All};
+ghost use Rattle.std.specs.List.{All, Contains};
 ghost use Rattle.vb_block.specs.declared.digest.Ref.{Ref};
 ghost use Rattle.vb_disk.specs.States.{DiskState};
 ghost use Rattle.vb_tree.specs.declared.operation.Op.{Op};
@@ -20,10 +20,14 @@ ghost use Rattle.vb_active.specs.Views.{ref_at, ActiveState, Backs, KeepsFiles};
 ghost use Rattle.vb_frozen.specs.Orders.{order_of, with_reference};
 ghost use Rattle.vb_frozen.specs.Sources.{next_of};
 ghost use Rattle.vb_plan.specs.Laws.{slots_next};
-ghost use Rattle.vb_plan.specs.Plans.{plan_of};
+ghost use Rattle.vb_plan.specs.declared.plan_page.PlanPage.{PlanPage};
+ghost use Rattle.vb_plan.specs.Plans.{data_page, plan_of};
 ghost use Rattle.vb_plan.specs.Seen.{basis_of};
+ghost use Rattle.vb_commit.specs.Known.{IsEvery};
+ghost use Rattle.vb_commit.specs.Ways.{after_first, IsGiven, IsGivenFrom};
 ghost use Rattle.vb_store.specs.Views.{HasNoneBegun, IsView, ViewState};
-ghost use Rattle.vb_local.specs.Ties.{FrozenRelies, FrozenState, HaveDigests, IsFrozenOver, IsFrozenUnder, IsLiveOver, KeepsEntries, KeepsLimits, LiveFollows, LiveRelies};
+ghost use Rattle.vb_local.specs.Ties.{given_of, source_in, FrozenRelies, FrozenState, HaveDigests, IsFrozenOver, IsFrozenUnder, IsKeptIn};
+ghost use Rattle.vb_local.specs.Ties.{IsLiveOver, KeepsEntries, KeepsLimits, LiveFollows, LiveRelies};
 ghost use Rattle.vb_local.specs.Trees.{blank_tree};
 
 use vb_next::a_next_view_can_follow;
@@ -66,11 +70,38 @@ pub fn a_freeze_can_be_committed()
     a_next_view_can_follow();
 }
 
-/// The plan of a frozen view writes pages that it keeps in memory, and the next nodes have its pages. It does nothing.
+/// The plan of a frozen view writes pages that it keeps in memory, each of them, and the next nodes have its pages. It
+/// does nothing.
 pub fn a_plan_has_the_frozen_pages()
-    ensures { (v : ViewState) (frozen : FrozenState) → IsView v → HasNoneBegun v → IsFrozenOver v.index frozen
+    ensures under { (v : ViewState) (frozen : FrozenState) → IsView v → HasNoneBegun v → IsFrozenOver v.index frozen
         → IsFrozenUnder (slots_next (basis_of v.index v.space) (next_of frozen.order frozen.pages))
         (plan_of (basis_of v.index v.space) (next_of frozen.order frozen.pages)).pages frozen }
+    ensures written { (v : ViewState) (frozen : FrozenState) (slot page : ℕ) (bytes : List ℕ) (reference : Ref) → IsView v
+        → HasNoneBegun v → IsFrozenOver v.index frozen → kept_page frozen.pages slot page ≡ Some bytes
+        → ref_at (slots_next (basis_of v.index v.space) (next_of frozen.order frozen.pages)) slot page ≡ Some reference
+        → Contains (plan_of (basis_of v.index v.space) (next_of frozen.order frozen.pages)).pages (data_page slot page reference) }
+{}
+
+/// The frozen view has the page of data that is due, whatever of the plan is left. It does nothing.
+pub fn a_due_page_is_kept()
+    ensures given { (frozen : FrozenState) (left : List PlanPage) → All (IsKeptIn frozen.pages) left
+        → IsGiven left (given_of left frozen) }
+    ensures source { (frozen : FrozenState) (left : List PlanPage) → All (IsKeptIn frozen.pages) left
+        → IsGivenFrom (source_in frozen) left (given_of left frozen) }
+    ensures left { (frozen : FrozenState) (left : List PlanPage) → All (IsKeptIn frozen.pages) left
+        → All (IsKeptIn frozen.pages) (after_first left) }
+{}
+
+/// Where every candidate of each planned place is the page that was planned there, a page that the frozen view keeps in
+/// memory is on the disk at its reference in the next nodes, and nothing else is. It does nothing.
+pub fn a_rested_commit_holds_the_frozen_pages()
+    ensures holds { (d : DiskState) (frozen : FrozenState) (next : List (Option Held)) (plan : List PlanPage) (slot page : ℕ)
+        (bytes : List ℕ) (reference : Ref) → All (IsEvery (source_in frozen) d) plan → HaveDigests next frozen
+        → kept_page frozen.pages slot page ≡ Some bytes → ref_at next slot page ≡ Some reference
+        → Contains plan (data_page slot page reference) → HoldsOnly (d.cells reference.place) reference.digest }
+    ensures first { (d : DiskState) (frozen : FrozenState) (plan : List PlanPage) (slot page : ℕ) (bytes : List ℕ)
+        (reference : Ref) → All (IsEvery (source_in frozen) d) plan → kept_page frozen.pages slot page ≡ Some bytes
+        → Contains plan (data_page slot page reference) → (d.cells reference.place).first ≡ bytes }
 {}
 
 /// Once a commit rests, the live view relies on the nodes that were the next ones, before any page of it is settled. It

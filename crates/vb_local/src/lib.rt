@@ -4,7 +4,8 @@
 mod laws;
 
 pub use laws::{
-    a_freeze_can_be_committed, a_plan_has_the_frozen_pages, a_rested_commit_is_relied_on,
+    a_due_page_is_kept, a_freeze_can_be_committed, a_plan_has_the_frozen_pages,
+    a_rested_commit_holds_the_frozen_pages, a_rested_commit_is_relied_on,
     a_settled_page_is_relied_on, a_settled_page_leaves_the_live_tree, an_operation_keeps_limits,
     an_operation_relies_on_no_more, nodes_have_a_tree,
 };
