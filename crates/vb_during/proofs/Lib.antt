@@ -1,0 +1,4 @@
+pub mod KeptPages
+pub mod ViewsKept
+pub mod NextHeld
+pub mod WholeCommits

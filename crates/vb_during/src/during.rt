@@ -1,0 +1,68 @@
+// What a disk has and recovers while the commit of a view is on its way.
+ghost use Rattle.std.specs.Prelude.{◌≡◌, ◌≤◌, ◌≢◌, [], ℕ, Bool, List, All, Contains, Option, Some, Result};
+ghost use Rattle.vb_commit.specs.Known.{IsCommittingFor};
+ghost use Rattle.vb_commit.specs.Steps.{WaySteps};
+ghost use Rattle.vb_commit.specs.Ways.{IsGivenFrom, WayState};
+ghost use Rattle.vb_disk.specs.Crashes.{damaged};
+ghost use Rattle.vb_disk.specs.declared.disk_error.DiskError.{DiskError};
+ghost use Rattle.vb_disk.specs.States.{written, DiskState, IsDiskState};
+ghost use Rattle.vb_during.specs.During.{head_after, plan_for, views_at, Follows, HoldsKept, IsCommittingView, IsWayOf, IsWholeView, LeadsTo, RecoversWhole, ViewCommit};
+ghost use Rattle.vb_index.specs.Contents.{HasTree};
+ghost use Rattle.vb_journal.specs.declared.commit_stage.CommitStep.{CommitStep};
+ghost use Rattle.vb_journal.specs.declared.commit_stage.Stage.TheVariants.{Rested};
+ghost use Rattle.vb_journal.specs.Progress.{IsAtRest};
+ghost use Rattle.vb_plan.specs.Laws.{place_of};
+ghost use Rattle.vb_steps.specs.Disks.{DiskView};
+ghost use Rattle.vb_store.specs.Clear.{first_candidates, last_candidates};
+ghost use Rattle.vb_store.specs.OneOf.{RecoversOneOf};
+ghost use Rattle.vb_store.specs.Views.{data_start, places_in};
+ghost use Rattle.vb_views.specs.AtRest.{IsAtRestFor, IsViewOf};
+ghost use Rattle.vb_views.specs.Reads.{pages_by, GiveCandidates, RecoverOneOf};
+
+/// Over a disk at rest for the committed view the commit is on its way once it is started. Each step keeps it so, and
+/// so is each moment within a step; and damage of any place leaves it, and a write to a place that neither view has. It
+/// does nothing.
+pub fn a_commit_of_a_view_stays_known()
+    ensures start { (v : ViewCommit) (s : WayState) (d : DiskState) → IsViewOf v.head v.old → IsAtRestFor v.head v.old d
+        → HasTree v.old.nodes (pages_by (first_candidates d) v.old.nodes) v.tree → Follows v → HoldsKept v d → IsWayOf v s
+        → ((homes journal : ℕ → List ℕ) → IsAtRest v.head homes journal d → IsCommittingFor v.source homes journal (plan_for v).pages s d)
+        → IsCommittingView v s d }
+    ensures step { (v : ViewCommit) (given : Option (List ℕ)) (old new : WayState) (before after : DiskView)
+        (result : Result CommitStep DiskError) (d : DiskState) → WaySteps old given new before after result → IsGivenFrom v.source old.pages given
+        → before.told ≡ Some d → IsCommittingView v old d → LeadsTo v old new d after.told }
+    ensures damage { (v : ViewCommit) (s : WayState) (d : DiskState) (place : ℕ) (page : List ℕ) → IsCommittingView v s d
+        → IsCommittingView v s (damaged d place page) }
+    ensures others { (v : ViewCommit) (s : WayState) (d : DiskState) (place : ℕ) (page : List ℕ) → data_start v.head ≤ place
+        → (Contains (places_in v.old.nodes) place → ⊥) → All (λ p. place_of p ≢ place) (plan_for v).pages → IsCommittingView v s d
+        → IsCommittingView v s (written d place page) }
+{}
+
+/// After the last step the disk is at rest for the next view, with the head that the commit writes last, and holds the
+/// tree of that view. It does nothing.
+pub fn a_rested_commit_is_at_rest_for_the_next_view()
+    ensures rests { (v : ViewCommit) (s : WayState) (d : DiskState) → s.pages ≡ [] → s.stage ≡ Rested → IsCommittingView v s d
+        → IsAtRestFor (head_after v) v.new d }
+    ensures tree { (v : ViewCommit) (s : WayState) (d : DiskState) → s.pages ≡ [] → s.stage ≡ Rested → IsCommittingView v s d
+        → HasTree v.new.nodes (pages_by (first_candidates d) v.new.nodes) v.after }
+{}
+
+/// Whichever candidate each place has, and whatever is hurt, the committed view alone may be recovered until the heads
+/// are opened, that one or the next one while they are, and from then on the next one alone; so by the first candidates
+/// of all places, and by the last ones. It does nothing.
+pub fn a_commit_of_a_view_recovers_one_of_both()
+    ensures one_of { (v : ViewCommit) (s : WayState) (made : Bool) (d : DiskState) → IsCommittingView v s d
+        → RecoversOneOf (views_at v s.stage) made d }
+    ensures candidates { (v : ViewCommit) (s : WayState) (d : DiskState) (reads : ℕ → List ℕ) → IsDiskState d → IsCommittingView v s d
+        → GiveCandidates d reads → RecoverOneOf (views_at v s.stage) d.size reads }
+    ensures first { (v : ViewCommit) (s : WayState) (d : DiskState) → IsDiskState d → IsCommittingView v s d
+        → RecoverOneOf (views_at v s.stage) d.size (first_candidates d) }
+    ensures last { (v : ViewCommit) (s : WayState) (d : DiskState) → IsDiskState d → IsCommittingView v s d
+        → RecoverOneOf (views_at v s.stage) d.size (last_candidates d) }
+{}
+
+/// Where nothing that counts is hurt, each crash recovers the epoch and the tree of a view that may be recovered then,
+/// exactly, and the disk is clear. It does nothing.
+pub fn a_whole_commit_of_a_view_recovers_a_tree()
+    ensures { (v : ViewCommit) (s : WayState) (d : DiskState) → IsCommittingView v s d → IsWholeView v s.stage d
+        → RecoversWhole v s.stage d }
+{}
