@@ -2,3 +2,4 @@ pub mod KeptPages
 pub mod ViewsKept
 pub mod NextHeld
 pub mod WholeCommits
+pub mod Following

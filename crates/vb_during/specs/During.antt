@@ -1,5 +1,5 @@
 -- A commit of a view on its disk: what the disk has of the committed view and of the next one, wherever the commit is.
-use Rattle.std.specs.Prelude.{◌≡◌, ◌⊎◌, ℕ, List, [], ◌∷◌, slice_get, Option, Some}
+use Rattle.std.specs.Prelude.{◌≡◌, ◌⊎◌, ℕ, ◌<◌, ◌^◌, List, [], ◌∷◌, slice_get, Option, Some}
 use Rattle.std.specs.List.{All, Contains}
 use Rattle.vb_commit.specs.Known.{IsCommittingFor}
 use Rattle.vb_commit.specs.Ways.{IsWay, WayState, bytes_in}
@@ -18,11 +18,14 @@ use Rattle.vb_journal.specs.declared.commit_stage.Stage.TheVariants.{Journal, Op
 use Rattle.vb_journal.specs.Plans.{closed_head}
 use Rattle.vb_journal.specs.Progress.{IsUnharmed}
 use Rattle.vb_plan.specs.Conditions.{CanPlan, CanSeal}
+use Rattle.vb_plan.specs.Following.{CanFollow}
 use Rattle.vb_plan.specs.Laws.{place_of, slots_next}
 use Rattle.vb_plan.specs.Plans.{Basis, PlanState, plan_of}
+use Rattle.vb_plan.specs.Seen.{basis_of}
+use Rattle.vb_space.specs.Spaces.{free_places}
 use Rattle.vb_store.specs.Clear.{IsClear}
 use Rattle.vb_store.specs.OneOf.{TreeView}
-use Rattle.vb_store.specs.Views.{places_in}
+use Rattle.vb_store.specs.Views.{HasNoneBegun, IsView, ViewState, limits_of, places_in}
 use Rattle.vb_tree.specs.declared.tree.TreeEntry.{TreeEntry}
 use Rattle.vb_views.specs.AtRest.{IsViewOf}
 use Rattle.vb_views.specs.Commits.{HasWholePlacesAt, HoldsView, IsPageOf, RecoversAt}
@@ -73,6 +76,28 @@ pub record Follows (v : ViewCommit) : Type 0 where
   pub apart : All (λ p. Contains (places_in v.old.nodes) (place_of p) → ⊥) (plan_for v).pages
   pub given : All (λ p. IsPageOf p (bytes_in v.source p)) (plan_for v).pages
   pub has : HasTree v.new.nodes v.source v.after
+
+-- a commit to these nodes can be started over a view at this epoch
+pub record CanStart (view : ViewState) (next : List NextNode) (epoch : ℕ) : Type 0 where
+  pub is : IsView view
+  pub none_begun : HasNoneBegun view
+  pub follows : CanFollow view.index next
+  pub sequence : view.head.sequence < 2 ^ 63
+  pub in_range : epoch < 2 ^ 63
+
+-- the commit that is started so, where the committed view has the one tree, and the next one the other over these pages
+abbrev pub commit_over : ViewState → List NextNode → ℕ → List TreeEntry → (ℕ → ℕ → List ℕ) → List TreeEntry → ViewCommit
+commit_over view next epoch tree source after = record {
+  head = view.head;
+  old = view.index;
+  tree = tree;
+  free = free_places view.space;
+  nodes = next;
+  epoch = epoch;
+  new = record { limits = limits_of view.head; nodes = slots_next (basis_of view.index view.space) next };
+  source = source;
+  after = after;
+}
 
 -- ---- the disk
 

@@ -2,22 +2,41 @@
 ghost use Rattle.std.specs.Prelude.{◌≡◌, ◌≤◌, ◌≢◌, [], ℕ, Bool, List, All, Contains, Option, Some, Result};
 ghost use Rattle.vb_commit.specs.Known.{IsCommittingFor};
 ghost use Rattle.vb_commit.specs.Steps.{WaySteps};
-ghost use Rattle.vb_commit.specs.Ways.{IsGivenFrom, WayState};
+ghost use Rattle.vb_commit.specs.Ways.{bytes_in, IsGivenFrom, WayState};
 ghost use Rattle.vb_disk.specs.Crashes.{damaged};
 ghost use Rattle.vb_disk.specs.declared.disk_error.DiskError.{DiskError};
 ghost use Rattle.vb_disk.specs.States.{written, DiskState, IsDiskState};
-ghost use Rattle.vb_during.specs.During.{head_after, plan_for, views_at, Follows, HoldsKept, IsCommittingView, IsWayOf, IsWholeView, LeadsTo, RecoversWhole, ViewCommit};
+ghost use Rattle.vb_during.specs.During.{commit_over, head_after, plan_for, views_at, CanStart, Follows, ViewCommit};
+ghost use Rattle.vb_during.specs.During.{HoldsKept, IsCommittingView, IsWayOf, IsWholeView, LeadsTo, RecoversWhole};
 ghost use Rattle.vb_index.specs.Contents.{HasTree};
+ghost use Rattle.vb_index.specs.Heights.{IsRooted};
+ghost use Rattle.vb_index.specs.Nodes.{IsTable};
+ghost use Rattle.vb_inode.specs.declared.next_view.NextNode.{NextNode};
 ghost use Rattle.vb_journal.specs.declared.commit_stage.CommitStep.{CommitStep};
 ghost use Rattle.vb_journal.specs.declared.commit_stage.Stage.TheVariants.{Rested};
 ghost use Rattle.vb_journal.specs.Progress.{IsAtRest};
-ghost use Rattle.vb_plan.specs.Laws.{place_of};
+ghost use Rattle.vb_plan.specs.Laws.{place_of, slots_next};
+ghost use Rattle.vb_plan.specs.Plans.{plan_of};
+ghost use Rattle.vb_plan.specs.Seen.{basis_of};
 ghost use Rattle.vb_steps.specs.Disks.{DiskView};
 ghost use Rattle.vb_store.specs.Clear.{first_candidates, last_candidates};
 ghost use Rattle.vb_store.specs.OneOf.{RecoversOneOf};
-ghost use Rattle.vb_store.specs.Views.{data_start, places_in};
+ghost use Rattle.vb_store.specs.Views.{data_start, places_in, ViewState};
+ghost use Rattle.vb_tree.specs.declared.tree.TreeEntry.{TreeEntry};
+ghost use Rattle.vb_views.specs.Commits.{IsPageOf};
 ghost use Rattle.vb_views.specs.AtRest.{IsAtRestFor, IsViewOf};
 ghost use Rattle.vb_views.specs.Reads.{pages_by, GiveCandidates, RecoverOneOf};
+
+/// The next view of a commit that is started over a view follows the committed one, where the index that its plan makes
+/// is as each index is, the pages given have the digests of the plan, and the tree is that of the nodes over them. It
+/// does nothing.
+pub fn a_commit_over_a_view_follows_it()
+    ensures { (view : ViewState) (next : List NextNode) (epoch : ℕ) (tree : List TreeEntry) (source : ℕ → ℕ → List ℕ) (after : List TreeEntry)
+        → CanStart view next epoch → IsTable (slots_next (basis_of view.index view.space) next)
+        → IsRooted (slots_next (basis_of view.index view.space) next)
+        → All (λ p. IsPageOf p (bytes_in source p)) (plan_of (basis_of view.index view.space) next).pages
+        → HasTree (slots_next (basis_of view.index view.space) next) source after → Follows (commit_over view next epoch tree source after) }
+{}
 
 /// Over a disk at rest for the committed view the commit is on its way once it is started. Each step keeps it so, and
 /// so is each moment within a step; and damage of any place leaves it, and a write to a place that neither view has. It

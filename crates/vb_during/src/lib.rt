@@ -5,5 +5,6 @@ mod during;
 
 pub use during::{
     a_commit_of_a_view_recovers_one_of_both, a_commit_of_a_view_stays_known,
-    a_rested_commit_is_at_rest_for_the_next_view, a_whole_commit_of_a_view_recovers_a_tree,
+    a_commit_over_a_view_follows_it, a_rested_commit_is_at_rest_for_the_next_view,
+    a_whole_commit_of_a_view_recovers_a_tree,
 };
