@@ -3,3 +3,4 @@ pub mod ViewsKept
 pub mod NextHeld
 pub mod WholeCommits
 pub mod Following
+pub mod WholeSteps

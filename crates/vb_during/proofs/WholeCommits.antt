@@ -4,7 +4,7 @@ use Rattle.std.proofs.lemmas.List.{append-nil}
 use Rattle.vb_commit.specs.Known.{AreWritten, JournalStands, StoreStands}
 use Rattle.vb_commit.specs.Ways.{Waits, WayState}
 use Rattle.vb_commit.proofs.WaysKept.{way}
-use Rattle.vb_disk.specs.States.{DiskState}
+use Rattle.vb_disk.specs.States.{DiskState, IsDiskState}
 use Rattle.vb_head.specs.declared.head.Head.{Head}
 use Rattle.vb_journal.specs.declared.commit_stage.Stage.{Stage}
 use Rattle.vb_journal.specs.declared.commit_stage.Stage.TheVariants.{Journal, Opening, Homes, Closing, Rested}
@@ -13,6 +13,7 @@ use Rattle.vb_journal.specs.Plans.{CanGoOn, closed_head}
 use Rattle.vb_journal.specs.Progress.{IsAtRest, IsUnharmed, IsUnnamed, IsWholeAt}
 use Rattle.vb_journal.proofs.Overlays.{named_or_not}
 use Rattle.vb_plan.specs.declared.plan_page.PlanPage.{PlanPage}
+use Rattle.vb_views.specs.Commits.{HasWholePlacesAt}
 use Rattle.vb_views.proofs.ClearViews.{clear-commit, clear-rest}
 use Rattle.vb_views.proofs.WholeViews.{IsWholeCommit, crash-recovers, rest-recovers}
 use Rattle.vb_during.specs.During.{IsCommittingView, IsWholeView, RecoversWhole, ViewCommit, head_after, plan_for}
@@ -46,7 +47,13 @@ unharmed_after head epoch images d u = record {
 
 -- ---- crashes
 
-whole_placed : (v : ViewCommit) (s : WayState) (d : DiskState) (k : IsCommittingView v s d) (stage : Stage) → IsWholeView v stage d → CanGoOn v.head v.epoch (plan_for v).images stage → JournalStands v.head v.epoch (plan_for v).images k.homes k.journal stage d → AreWritten v.source (plan_for v).pages stage d → RecoversWhole v stage d
+-- a disk that can be, on which nothing that counts is hurt
+record IsWholeDisk (v : ViewCommit) (stage : Stage) (d : DiskState) : Type 0 where
+  pub disk : IsDiskState d
+  pub unharmed : IsUnharmed v.head (plan_for v).images stage d
+  pub places : HasWholePlacesAt stage v.old v.new d
+
+whole_placed : (v : ViewCommit) (s : WayState) (d : DiskState) (k : IsCommittingView v s d) (stage : Stage) → IsWholeDisk v stage d → CanGoOn v.head v.epoch (plan_for v).images stage → JournalStands v.head v.epoch (plan_for v).images k.homes k.journal stage d → AreWritten v.source (plan_for v).pages stage d → RecoversWhole v stage d
 whole_placed v s d k (Journal next) w can stands written =
     let c : IsWholeCommit v.head v.epoch (plan_for v).images k.homes k.journal (Journal next) d = record { can = can; disk = w.disk; known = stands; unharmed = w.unharmed } in
     record {
@@ -83,7 +90,7 @@ whole_placed v s d k Rested w can stands written =
       clear = clear-rest (head_after v) v.new d v.after k.follows.view w.disk rests holds.has whole w.places;
     }
 
-whole_left : (v : ViewCommit) (s : WayState) (d : DiskState) (k : IsCommittingView v s d) → IsWholeView v (Journal 0) d → IsAtRest v.head k.homes k.journal d → RecoversWhole v (Journal 0) d
+whole_left : (v : ViewCommit) (s : WayState) (d : DiskState) (k : IsCommittingView v s d) → IsWholeDisk v (Journal 0) d → IsAtRest v.head k.homes k.journal d → RecoversWhole v (Journal 0) d
 whole_left v s d k w stands =
     let rests = old-rests v s d k stands in
     let whole = unharmed_before v.head (plan_for v).images d w.unharmed in
@@ -92,15 +99,15 @@ whole_left v s d k w stands =
       clear = clear-rest v.head v.old d v.tree k.holds.view w.disk rests k.holds.has whole w.places;
     }
 
-whole_pages : (v : ViewCommit) (s : WayState) (d : DiskState) (k : IsCommittingView v s d) (pages : List PlanPage) (stage : Stage) → IsWholeView v stage d → CanGoOn v.head v.epoch (plan_for v).images stage → Waits pages stage → k.known.placed ++ pages ≡ (plan_for v).pages → StoreStands k.homes k.journal pages (way v.head v.epoch (plan_for v).images pages stage) d → AreWritten v.source k.known.placed stage d → RecoversWhole v stage d
+whole_pages : (v : ViewCommit) (s : WayState) (d : DiskState) (k : IsCommittingView v s d) (pages : List PlanPage) (stage : Stage) → IsWholeDisk v stage d → CanGoOn v.head v.epoch (plan_for v).images stage → Waits pages stage → k.known.placed ++ pages ≡ (plan_for v).pages → StoreStands k.homes k.journal pages (way v.head v.epoch (plan_for v).images pages stage) d → AreWritten v.source k.known.placed stage d → RecoversWhole v stage d
 whole_pages v s d k [] stage w can waits all stands written =
     whole_placed v s d k stage w can stands (subst (λ (ps : List PlanPage). AreWritten v.source ps stage d) (sym (append-nil k.known.placed) ∙ all) written)
 whole_pages v s d k (p ∷ pages) stage w can waits all stands written =
-    subst (λ (x : Stage). RecoversWhole v x d) (sym waits) (whole_left v s d k (subst (λ (x : Stage). IsWholeView v x d) waits w) stands)
+    subst (λ (x : Stage). RecoversWhole v x d) (sym waits) (whole_left v s d k (subst (λ (x : Stage). IsWholeDisk v x d) waits w) stands)
 
-pub whole-recovers : (v : ViewCommit) (s : WayState) (d : DiskState) → IsCommittingView v s d → IsWholeView v s.stage d → RecoversWhole v s.stage d
-whole-recovers v s d k w =
-    whole_pages v s d k s.pages s.stage w
+pub whole-recovers : (v : ViewCommit) (s : WayState) (d : DiskState) → IsDiskState d → IsCommittingView v s d → IsWholeView v s.stage d → RecoversWhole v s.stage d
+whole-recovers v s d disk k w =
+    whole_pages v s d k s.pages s.stage (record { disk = disk; unharmed = w.unharmed; places = w.places })
     (at-own (λ head epoch images. CanGoOn head epoch images s.stage) v s k.of k.of.way.can)
     k.of.way.waits k.known.of_plan
     (at-own (λ head epoch images. StoreStands k.homes k.journal s.pages (way head epoch images s.pages s.stage) d) v s k.of k.known.store)

@@ -6,7 +6,7 @@ use Rattle.vb_commit.specs.Ways.{IsWay, WayState, bytes_in}
 use Rattle.vb_disk.specs.Cells.{candidates}
 use Rattle.vb_disk.specs.Crashes.{MayCrashTo}
 use Rattle.vb_disk.specs.Moments.{EachMoment}
-use Rattle.vb_disk.specs.States.{DiskState, IsDiskState}
+use Rattle.vb_disk.specs.States.{DiskState}
 use Rattle.vb_head.specs.declared.head.Head.{Head}
 use Rattle.vb_index.specs.Contents.{HasTree}
 use Rattle.vb_index.specs.Indexes.{IndexState}
@@ -16,8 +16,9 @@ use Rattle.vb_block.specs.declared.digest.Ref.{Ref}
 use Rattle.vb_journal.specs.declared.commit_stage.Stage.{Stage}
 use Rattle.vb_journal.specs.declared.commit_stage.Stage.TheVariants.{Journal, Opening, Homes, Closing, Rested}
 use Rattle.vb_journal.specs.Plans.{closed_head}
-use Rattle.vb_journal.specs.Progress.{IsUnharmed}
+use Rattle.vb_journal.specs.Progress.{IsUnharmed, IsWholeAt}
 use Rattle.vb_plan.specs.Conditions.{CanPlan, CanSeal}
+use Rattle.vb_plan.specs.declared.plan_page.PlanPage.{PlanPage}
 use Rattle.vb_plan.specs.Following.{CanFollow}
 use Rattle.vb_plan.specs.Laws.{place_of, slots_next}
 use Rattle.vb_plan.specs.Plans.{Basis, PlanState, plan_of}
@@ -146,9 +147,13 @@ pub record LeadsTo (v : ViewCommit) (before after : WayState) (d : DiskState) (n
 -- nothing that counts at a stage is hurt: the heads, homes and images that the journal needs, and the places of the
 -- views that may be recovered, each of which has one candidate
 pub record IsWholeView (v : ViewCommit) (stage : Stage) (d : DiskState) : Type 0 where
-  pub disk : IsDiskState d
   pub unharmed : IsUnharmed v.head (plan_for v).images stage d
   pub places : HasWholePlacesAt stage v.old v.new d
+
+-- so it is of a commit on its way, and each page of its plan that was placed is whole
+pub record StaysWhole (v : ViewCommit) (s : WayState) (d : DiskState) : Type 0 where
+  pub view : IsWholeView v s.stage d
+  pub placed : (p : PlanPage) → Contains (plan_for v).pages p → (Contains s.pages p → ⊥) → IsWholeAt d (place_of p)
 
 -- each crash recovers exactly what a view has that may be recovered at the stage, and the disk is clear
 pub record RecoversWhole (v : ViewCommit) (stage : Stage) (d : DiskState) : Type 0 where

@@ -7,7 +7,7 @@ ghost use Rattle.vb_disk.specs.Crashes.{damaged};
 ghost use Rattle.vb_disk.specs.declared.disk_error.DiskError.{DiskError};
 ghost use Rattle.vb_disk.specs.States.{written, DiskState, IsDiskState};
 ghost use Rattle.vb_during.specs.During.{commit_over, head_after, plan_for, views_at, CanStart, Follows, ViewCommit};
-ghost use Rattle.vb_during.specs.During.{HoldsKept, IsCommittingView, IsWayOf, IsWholeView, LeadsTo, RecoversWhole};
+ghost use Rattle.vb_during.specs.During.{HoldsKept, IsCommittingView, IsWayOf, IsWholeView, LeadsTo, RecoversWhole, StaysWhole};
 ghost use Rattle.vb_index.specs.Contents.{HasTree};
 ghost use Rattle.vb_index.specs.Heights.{IsRooted};
 ghost use Rattle.vb_index.specs.Nodes.{IsTable};
@@ -80,8 +80,13 @@ pub fn a_commit_of_a_view_recovers_one_of_both()
 {}
 
 /// Where nothing that counts is hurt, each crash recovers the epoch and the tree of a view that may be recovered then,
-/// exactly, and the disk is clear. It does nothing.
+/// exactly, and the disk is clear. It is so when the commit is started over a whole store, and each step keeps it, with
+/// or without an error, since no call hurts a place. It does nothing.
 pub fn a_whole_commit_of_a_view_recovers_a_tree()
-    ensures { (v : ViewCommit) (s : WayState) (d : DiskState) → IsCommittingView v s d → IsWholeView v s.stage d
+    ensures whole { (v : ViewCommit) (s : WayState) (d : DiskState) → IsDiskState d → IsCommittingView v s d → IsWholeView v s.stage d
         → RecoversWhole v s.stage d }
+    ensures start { (v : ViewCommit) (s : WayState) (d : DiskState) → s.pages ≡ (plan_for v).pages → IsWholeView v s.stage d → StaysWhole v s d }
+    ensures step { (v : ViewCommit) (given : Option (List ℕ)) (old new : WayState) (before after : DiskView)
+        (result : Result CommitStep DiskError) (d next : DiskState) → WaySteps old given new before after result → before.told ≡ Some d
+        → after.told ≡ Some next → IsCommittingView v old d → StaysWhole v old d → StaysWhole v new next }
 {}
