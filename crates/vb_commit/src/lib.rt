@@ -17,3 +17,5 @@ pub use laws::{
 
 #[cfg(test)]
 mod tests;
+#[cfg(test)]
+mod two_tests;

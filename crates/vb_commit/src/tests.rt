@@ -36,7 +36,7 @@ const ANSWERS: [CommitStep; 15] = [
 ];
 
 // The page of a file of this text.
-fn page_of(alloc: Global, text: &[u8]) -> Result<Page, AllocError>
+pub(crate) fn page_of(alloc: Global, text: &[u8]) -> Result<Page, AllocError>
     requires { length text.now ≤ 4096 }
 {
     let mut page = Page::zero(alloc)?;
@@ -45,7 +45,7 @@ fn page_of(alloc: Global, text: &[u8]) -> Result<Page, AllocError>
 }
 
 // A node of the next view, right below the root.
-fn next_node(
+pub(crate) fn next_node(
     alloc: Global,
     slot: u32,
     kind: NodeKind,
@@ -84,7 +84,7 @@ fn one_file(alloc: Global, length: u64, digest: Digest) -> Result<NextView, Allo
 }
 
 // Whether a view is that of a store of 64 places and 16 nodes, early in its life.
-fn is_small(view: &View) -> bool
+pub(crate) fn is_small(view: &View) -> bool
     ensures blocks { result ≡ true → view.now.head.blocks ≡ 64 }
     ensures nodes { result ≡ true → view.now.head.nodes ≡ 16 }
     ensures sequence { result ≡ true → view.now.head.sequence ≤ 1000 }
@@ -183,7 +183,7 @@ fn commit_text(
 }
 
 // Mounts a disk.
-fn mounted_on<D: Disk + Drop>(alloc: Global, disk: D) -> Result<Mounted<D>, Fail>
+pub(crate) fn mounted_on<D: Disk + Drop>(alloc: Global, disk: D) -> Result<Mounted<D>, Fail>
     ensures { IfOk result (λ mounted. HasNoneBegun mounted.view) }
 {
     let mut mount = Mount::start(alloc, disk);
@@ -296,7 +296,7 @@ fn left_after(
 }
 
 // Crashes a disk.
-fn crash(disk: &mut MemoryDisk, rest: Side, torn: Option<u32>) -> Result<(), Fail> {
+pub(crate) fn crash(disk: &mut MemoryDisk, rest: Side, torn: Option<u32>) -> Result<(), Fail> {
     match torn {
         Some(place) => {
             let page = disk.miss(place)?;
