@@ -1,9 +1,9 @@
 // What a disk has and recovers while the commit of a view is on its way.
-ghost use Rattle.std.specs.Prelude.{◌≡◌, ◌≤◌, ◌≢◌, [], ℕ, Bool, List, All, Contains, Option, Some, Result};
+ghost use Rattle.std.specs.Prelude.{◌≡◌, ◌≤◌, ◌≢◌, [], ℕ, Bool, false, List, All, Contains, Option, Some, Result};
 ghost use Rattle.vb_commit.specs.Known.{IsCommittingFor};
 ghost use Rattle.vb_commit.specs.Steps.{WaySteps};
 ghost use Rattle.vb_commit.specs.Ways.{bytes_in, IsGivenFrom, WayState};
-ghost use Rattle.vb_disk.specs.Crashes.{damaged};
+ghost use Rattle.vb_disk.specs.Crashes.{damaged, MayCrashTo};
 ghost use Rattle.vb_disk.specs.declared.disk_error.DiskError.{DiskError};
 ghost use Rattle.vb_disk.specs.States.{written, DiskState, IsDiskState};
 ghost use Rattle.vb_during.specs.During.{commit_over, head_after, plan_for, views_at, CanStart, Follows, ViewCommit};
@@ -20,7 +20,7 @@ ghost use Rattle.vb_plan.specs.Plans.{plan_of};
 ghost use Rattle.vb_plan.specs.Seen.{basis_of};
 ghost use Rattle.vb_steps.specs.Disks.{DiskView};
 ghost use Rattle.vb_store.specs.Clear.{first_candidates, last_candidates};
-ghost use Rattle.vb_store.specs.OneOf.{RecoversOneOf};
+ghost use Rattle.vb_store.specs.OneOf.{RecoversOneOf, ShowsOrRefuses};
 ghost use Rattle.vb_store.specs.Views.{data_start, places_in, ViewState};
 ghost use Rattle.vb_tree.specs.declared.tree.TreeEntry.{TreeEntry};
 ghost use Rattle.vb_views.specs.Commits.{IsPageOf};
@@ -67,7 +67,8 @@ pub fn a_rested_commit_is_at_rest_for_the_next_view()
 
 /// Whichever candidate each place has, and whatever is hurt, the committed view alone may be recovered until the heads
 /// are opened, that one or the next one while they are, and from then on the next one alone; so by the first candidates
-/// of all places, and by the last ones. It does nothing.
+/// of all places, and by the last ones. Each crash shows one of these views, or is refused as damaged at a hurt place, or
+/// as no store where both heads are hurt. It does nothing.
 pub fn a_commit_of_a_view_recovers_one_of_both()
     ensures one_of { (v : ViewCommit) (s : WayState) (made : Bool) (d : DiskState) → IsCommittingView v s d
         → RecoversOneOf (views_at v s.stage) made d }
@@ -77,6 +78,8 @@ pub fn a_commit_of_a_view_recovers_one_of_both()
         → RecoverOneOf (views_at v s.stage) d.size (first_candidates d) }
     ensures last { (v : ViewCommit) (s : WayState) (d : DiskState) → IsDiskState d → IsCommittingView v s d
         → RecoverOneOf (views_at v s.stage) d.size (last_candidates d) }
+    ensures crash { (v : ViewCommit) (s : WayState) (d new : DiskState) → IsDiskState d → IsCommittingView v s d → MayCrashTo d new
+        → ShowsOrRefuses (views_at v s.stage) false new }
 {}
 
 /// Where nothing that counts is hurt, each crash recovers the epoch and the tree of a view that may be recovered then,

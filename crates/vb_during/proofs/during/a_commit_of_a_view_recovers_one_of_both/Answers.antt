@@ -1,4 +1,5 @@
 use Rattle.std.proofs.Common.{false}
+use Rattle.vb_journal.proofs.ChoicesOf.{IsChoiceOf-crash}
 use Rattle.vb_store.specs.Clear.{first_candidates, last_candidates}
 use Rattle.vb_during.specs.During.{views_at}
 use Rattle.vb_views.proofs.ReadsOfViews.{one-recovered}
@@ -17,3 +18,6 @@ returns-clause-first c v s d disk known = one-recovered (views_at v s.stage) d (
 
 pub returns-clause-last : goal.returns-clause-last
 returns-clause-last c v s d disk known = one-recovered (views_at v s.stage) d (last_candidates d) disk (commit-recovers-views v s false d known) (last-given d)
+
+pub returns-clause-crash : goal.returns-clause-crash
+returns-clause-crash c v s d new disk known crash = commit-recovers-views v s false d known new (IsChoiceOf-crash d new disk crash)
