@@ -19,6 +19,3 @@ mod words;
 pub use error::{LineKind, ScriptError};
 pub use read::read_script;
 pub use script::{Form, Script};
-
-#[cfg(test)]
-mod tests;

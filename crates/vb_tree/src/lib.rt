@@ -25,6 +25,3 @@ pub use plain::Plain;
 pub use reply::{Refusal, Reply};
 pub use tree::{Kind, Limits, TreeEntry};
 pub use vb_path::{Bytes, Names, Path, PathError};
-
-#[cfg(test)]
-mod tests;

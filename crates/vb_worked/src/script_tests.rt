@@ -1,11 +1,11 @@
 // Outside examples: scripts that are wrong, with line and kind, and scripts that are read, with what they say.
 ghost use Rattle.std.specs.Prelude.{◌<◌};
 
-use crate::LineKind::{Hex, Long, Number, Path, Place, Range, Twice, Unknown, Words};
-use crate::*;
 use std::alloc::{AllocError, Global};
 use std::test::Fail;
 use vb_hist::Line;
+use vb_script::LineKind::{Hex, Long, Number, Path, Place, Range, Twice, Unknown, Words};
+use vb_script::*;
 use vb_tree::Op;
 
 /// Scripts of a rehearsal with a wrong line, and that line with its kind.

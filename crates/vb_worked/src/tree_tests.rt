@@ -1,10 +1,10 @@
 // Outside examples: operations with their replies.
 ghost use Rattle.vb_tree.specs.Operations.{IsInRange};
 
-use super::*;
 use std::alloc::{AllocError, Global};
 use std::process::Abort;
 use std::test::Fail;
+use vb_tree::{Bytes, Kind, Limits, Names, Op, Path, Plain, Refusal, Reply};
 
 /// The limits of a store of 38 blocks and 16 nodes.
 const TWO_PAGES: Limits = Limits {
