@@ -3,6 +3,7 @@ mod Causes
 mod Changed
 mod Cutting
 mod Dues
+mod Limited
 mod Looking
 mod OneSlot
 mod Overwriting

@@ -3,6 +3,7 @@ ghost use Rattle.std.specs.Prelude.{◌≡◌, ◌<◌, ℕ, [], IsSome, Some};
 ghost use Rattle.vb_pages.specs.Tables.{kept_page, Forgets};
 ghost use Rattle.vb_index.specs.declared.held.Held.{Held};
 ghost use Rattle.vb_index.specs.Changes.{with_ref};
+ghost use Rattle.vb_index.specs.Indexes.{KeepsLimits};
 ghost use Rattle.vb_index.specs.Nodes.{held_at};
 ghost use Rattle.std.specs.Prelude.{slice_set};
 ghost use Rattle.vb_cause.specs.Causes.{HasCause, UsesFailures};
@@ -87,6 +88,7 @@ impl Active {
         requires range { IsInRange op.now }
         requires below { LiesBelow (D.seen disk.old) self.old }
         ensures performs { Performs (D.told disk.old) self.old self.new op.now result }
+        ensures within { KeepsLimits self.old.index → KeepsLimits self.new.index }
         ensures told { D.told disk.new ≡ D.told disk.old }
         ensures seen { D.seen disk.new ≡ D.seen disk.old }
         ensures cause { HasCause PageError.DiskFault (D.faults disk.old) (D.faults disk.new) result }

@@ -3,6 +3,7 @@ ghost use Rattle.std.specs.Prelude.{◌≡◌, Option, IsErrOf};
 ghost use Rattle.vb_disk.specs.States.{DiskState};
 ghost use Rattle.vb_tree.specs.declared.operation.Op.{Op};
 ghost use Rattle.vb_index.specs.Changes.{removal_of};
+ghost use Rattle.vb_index.specs.Indexes.{KeepsLimits};
 ghost use Rattle.vb_active.specs.Performs.{CutsFile, Performs, answer_of_error, making_of};
 
 use crate::{Active, Reply};
@@ -38,6 +39,7 @@ impl Active {
         kind: Kind,
     ) -> Result<Reply, PageError>
         ensures performs { (told : Option DiskState) → Performs told self.old self.new (making_of kind path.now) result }
+        ensures within { KeepsLimits self.old.index → KeepsLimits self.new.index }
         ensures no_fault { IsErrOf result PageError.DiskFault → ⊥ }
     {
         match self.index.add(alloc, path, kind) {
@@ -52,6 +54,7 @@ impl Active {
     /// Removes a file with its pages, or a folder without entries.
     pub(crate) fn remove(&mut self, path: &Path, kind: Kind) -> Result<Reply, PageError>
         ensures performs { (told : Option DiskState) → Performs told self.old self.new (removal_of kind path.now) result }
+        ensures within { KeepsLimits self.old.index → KeepsLimits self.new.index }
         ensures no_fault { IsErrOf result PageError.DiskFault → ⊥ }
     {
         match self.index.detach(path, kind) {
@@ -72,6 +75,7 @@ impl Active {
         target: &Path,
     ) -> Result<Reply, PageError>
         ensures performs { (told : Option DiskState) → Performs told self.old self.new (Op.Rename source.now target.now) result }
+        ensures within { KeepsLimits self.old.index → KeepsLimits self.new.index }
         ensures no_fault { IsErrOf result PageError.DiskFault → ⊥ }
     {
         match self.index.rename(alloc, source, target) {

@@ -4,6 +4,7 @@ ghost use Rattle.vb_cause.specs.Causes.{HasCause, UsesFailures};
 ghost use Rattle.vb_block.specs.Pages.{overwritten, zero_page};
 ghost use Rattle.vb_disk.specs.States.{DiskState};
 ghost use Rattle.vb_index.specs.Contents.{HasPages};
+ghost use Rattle.vb_index.specs.Indexes.{KeepsLimits};
 ghost use Rattle.vb_tree.specs.declared.operation.Op.{Op};
 ghost use Rattle.vb_tree.specs.Contents.{truncated_to};
 ghost use Rattle.vb_tree.specs.Operations.{IsInRange};
@@ -137,6 +138,7 @@ impl Active {
         requires range { IsInRange (Op.Truncate path.now len) }
         requires below { LiesBelow (D.seen disk.old) self.old }
         ensures performs { Performs (D.told disk.old) self.old self.new (Op.Truncate path.now len) result }
+        ensures within { KeepsLimits self.old.index → KeepsLimits self.new.index }
         ensures told { D.told disk.new ≡ D.told disk.old }
         ensures seen { D.seen disk.new ≡ D.seen disk.old }
         ensures cause { HasCause PageError.DiskFault (D.faults disk.old) (D.faults disk.new) result }

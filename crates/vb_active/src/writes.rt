@@ -5,6 +5,7 @@ ghost use Rattle.vb_tree.specs.declared.operation.Op.{Op};
 ghost use Rattle.vb_tree.specs.Contents.{new_length};
 ghost use Rattle.vb_tree.specs.Operations.{IsInRange};
 ghost use Rattle.vb_tree.specs.Trees.{longest_file};
+ghost use Rattle.vb_index.specs.Indexes.{KeepsLimits};
 ghost use Rattle.vb_active.specs.Performs.{Performs};
 ghost use Rattle.vb_active.specs.Views.{LiesBelow};
 
@@ -42,6 +43,7 @@ impl Active {
         requires range { IsInRange (Op.Write path.now offset bytes.now) }
         requires below { LiesBelow (D.seen disk.old) self.old }
         ensures performs { Performs (D.told disk.old) self.old self.new (Op.Write path.now offset bytes.now) result }
+        ensures within { KeepsLimits self.old.index → KeepsLimits self.new.index }
         ensures told { D.told disk.new ≡ D.told disk.old }
         ensures seen { D.seen disk.new ≡ D.seen disk.old }
         ensures cause { HasCause PageError.DiskFault (D.faults disk.old) (D.faults disk.new) result }

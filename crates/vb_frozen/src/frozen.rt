@@ -1,5 +1,5 @@
 // A view as it was when it was frozen.
-ghost use Rattle.std.specs.Prelude.{◌≡◌, ◌<◌, List, Some, length, slice_get, is_none, option_copied, IfOk, IsSome};
+ghost use Rattle.std.specs.Prelude.{◌≡◌, ◌+◌, ◌<◌, [], List, Some, length, slice_get, is_none, option_copied, IfNone, IfOk, IfSome, IsSome};
 ghost use Rattle.vb_cause.specs.Causes.{HasCause, UsesFailures};
 ghost use Rattle.vb_block.specs.declared.digest.Ref.{Ref};
 ghost use Rattle.vb_disk.specs.States.{DiskState};
@@ -21,7 +21,7 @@ use vb_block::{Page, Ref};
 use vb_disk::Disk;
 use vb_index::Index;
 use vb_inode::NextView;
-use vb_pages::{PageError, PageTable};
+use vb_pages::{PageError, PageKey, PageTable};
 
 /// A view as it was when it was frozen: its entries in path order, and the pages that it keeps in memory. Nothing that
 /// happens to the live view changes it.
@@ -109,11 +109,20 @@ impl Frozen {
         self.pages.get(slot, page)
     }
 
+    /// The first page that is kept in memory, and None where none is.
+    pub fn first_dirty(&self) -> Option<PageKey>
+        ensures found { IfSome result (λ key. IsSome (kept_page self.now.pages key.slot key.page)) }
+        ensures none { IfNone result (self.now.pages ≡ []) }
+    {
+        self.pages.first()
+    }
+
     /// Forgets a page that is kept in memory, and puts this reference in its place. It takes no memory.
     pub fn settle(&mut self, slot: u32, page: u32, reference: Ref)
         requires { page < length (refs_in self.old.order slot) }
         ensures referred { self.new.order ≡ with_reference slot page reference self.old.order }
         ensures forgotten { Forgets self.old.pages self.new.pages slot page }
+        ensures fewer { IsSome (kept_page self.old.pages slot page) → length self.old.pages ≡ length self.new.pages + 1 }
     {
         self.order.set_ref(slot, page, reference);
         self.pages.forget(slot, page);

@@ -16,6 +16,7 @@ pub mod MovedWalks
 pub mod Named
 pub mod Newness
 pub mod OneTree
+pub mod PageSums
 pub mod PathOrder
 pub mod Places
 pub mod Positions

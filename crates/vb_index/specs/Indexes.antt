@@ -1,5 +1,5 @@
 -- Indexes: limits and nodes, and the trees that have the folders, files and lengths of the nodes.
-use Rattle.std.specs.Prelude.{◌≡◌, ℕ, ◌<◌, true, if◌then◌else◌, IsSome, List, [], length, Option, Some, None, Result, Ok, Err}
+use Rattle.std.specs.Prelude.{◌≡◌, ℕ, ◌<◌, ◌≤◌, true, if◌then◌else◌, IsSome, List, [], length, Option, Some, None, Result, Ok, Err}
 use Rattle.std.specs.Option.{option_map, option_and_then}
 use Rattle.vb_inode.specs.declared.node.NodeKind.{NodeKind}
 use Rattle.vb_inode.specs.declared.node.NodeKind.TheVariants.{Folder as FolderNode, File as FileNode}
@@ -19,6 +19,10 @@ use Rattle.vb_index.specs.Nodes.{kind_of, held_at, holds_folder, child_of, slot_
 pub record IndexState : Type 0 where
   pub limits : Limits
   pub nodes : List (Option Held)
+
+-- the files of an index take no more pages than its limits
+abbrev pub KeepsLimits : IndexState → Type 0
+KeepsLimits index = pages_in index.nodes ≤ index.limits.pages
 
 -- what stands at a path: its kind, and its length, which is 0 for a folder
 pub record Shape : Type 0 where

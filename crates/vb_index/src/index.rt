@@ -11,7 +11,7 @@ ghost use Rattle.vb_path.specs.Parts.{IsPart};
 ghost use Rattle.vb_tree.specs.Renames.{is_deep};
 ghost use Rattle.vb_index.specs.Heights.{path_to, IsRooted};
 ghost use Rattle.vb_index.specs.Nodes.{root_held, refs_at, held_at, holds_folder, child_of, slot_at, nodes_in, pages_in, IsHeld, IsTable};
-ghost use Rattle.vb_index.specs.Indexes.{shape_of, shape_of_entry, HasShapeOf, IsAnswer, IsLeastFree, new_held};
+ghost use Rattle.vb_index.specs.Indexes.{shape_of, shape_of_entry, HasShapeOf, IsAnswer, IsLeastFree, KeepsLimits, new_held};
 ghost use Rattle.vb_index.specs.Changes.{removal_of, resized, with_ref, IsFileAt};
 ghost use Rattle.vb_index.specs.Contents.{HasPages, HasTree, KeepsOthers};
 ghost use Rattle.vb_index.specs.Listings.{name_at, AreEntries, AreInPathOrder};
@@ -91,6 +91,7 @@ impl Index {
         ensures count { result ≡ nodes_in self.now.nodes }
         ensures table { IsTable self.now.nodes }
         ensures rooted { IsRooted self.now.nodes }
+        ensures slots { self.now.limits.nodes ≡ length self.now.nodes }
     {
         self.table.count()
     }
@@ -148,6 +149,7 @@ impl Index {
               nodes = slice_set self.old.nodes slot
                   (Some (new_held slot kind folder (name_of path.now)));
             })) }
+        ensures within { KeepsLimits self.old → KeepsLimits self.new }
         ensures err { OnErr result (self.new ≡ self.old) }
     {
         let names = path.parts();
@@ -171,6 +173,7 @@ impl Index {
         ensures nodes { IfOk result (λ slot. self.new ≡ record self.old {
           nodes = slice_set self.old.nodes slot None;
         }) }
+        ensures within { KeepsLimits self.old → KeepsLimits self.new }
         ensures err { OnErr result (self.new ≡ self.old) }
     {
         let slot = leaving(&self.table, path.parts(), kind)?;
@@ -186,6 +189,8 @@ impl Index {
             (refuse_resize self.now.limits tree path.now len) ≡ result_err result }
         ensures found { IfOk result (λ slot. IsFileAt self.now.nodes path.now slot) }
         ensures short { OnOk result (len ≤ longest_file) }
+        ensures room { IfOk result (λ slot. (held : Held) → held_at self.now.nodes slot ≡ Some held → KeepsLimits self.now
+            → pages_in (slice_set self.now.nodes slot (Some (resized len held))) ≤ self.now.limits.pages) }
     {
         resizable(self.limits, &self.table, path.parts(), len)
     }

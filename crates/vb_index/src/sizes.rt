@@ -1,5 +1,5 @@
 // Files that get another length: whether one may, and what is held of it then.
-ghost use Rattle.std.specs.Prelude.{◌≡◌, ◌+◌, ◌++◌, ◌-◌, ◌^◌, ◌<◌, ◌≤◌, true, List, length, take, replicate, Some, None, IfOk, IfErr, IsOk, OnOk, OnErr};
+ghost use Rattle.std.specs.Prelude.{◌≡◌, ◌+◌, ◌++◌, ◌-◌, ◌^◌, ◌<◌, ◌≤◌, true, List, length, take, replicate, slice_set, Some, None, IfOk, IfErr, IsOk, OnOk, OnErr};
 ghost use Rattle.std.specs.Option.{option_map, ForSome};
 ghost use Rattle.std.specs.Result.{result_err};
 ghost use Rattle.vb_tree.specs.declared.reply.Refusal.TheVariants as refusals;
@@ -8,7 +8,7 @@ ghost use Rattle.vb_tree.specs.Trees.{longest_file, data_pages_of, pages_of_leng
 ghost use Rattle.vb_tree.specs.Refusals.{refuse_length, refuse_unless_file, refuse_resize};
 ghost use Rattle.vb_index.specs.Indexes.{HasShapeOf};
 ghost use Rattle.vb_index.specs.declared.held.Held.{Held};
-ghost use Rattle.vb_index.specs.Nodes.{is_file_node, held_at, refs_at};
+ghost use Rattle.vb_index.specs.Nodes.{is_file_node, held_at, pages_in, refs_at};
 ghost use Rattle.vb_index.specs.Changes.{blank_ref, resized, with_ref, IsFileAt};
 
 use crate::table::Table;
@@ -63,6 +63,8 @@ pub(crate) fn resizable(
         ≡ result_err result }
     ensures found { IfOk result (λ slot. IsFileAt table.now parts.now slot) }
     ensures short { OnOk result (len ≤ longest_file) }
+    ensures room { IfOk result (λ slot. (held : Held) → held_at table.now slot ≡ Some held → pages_in table.now ≤ limits.pages
+        → pages_in (slice_set table.now slot (Some (resized len held))) ≤ limits.pages) }
 {
     let slot = slot_of(table, parts)?;
     let pages = table.pages();

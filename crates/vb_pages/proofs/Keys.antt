@@ -1,5 +1,5 @@
 -- The order of keys, and what a table keeps after a change at one key.
-use Rattle.std.proofs.Common.{◌≡◌, ℕ, ◌≤◌, Bool, true, false, ◌&&◌, cond, refl, sym, ap, ◌∙◌, arith, List, [], ◌∷◌, Option, Some, None, IsSome}
+use Rattle.std.proofs.Common.{◌≡◌, ℕ, ◌+◌, ◌≤◌, Bool, true, false, ◌&&◌, cond, refl, sym, ap, ◌∙◌, arith, List, [], ◌∷◌, length, Option, Some, None, is_some, IsSome}
 use Rattle.std.specs.declared.ops.Bound.TheVariants.{Included, Unbounded}
 use Rattle.std.specs.BTreeMap.{BTreeMap}
 use Rattle.std.specs.BTreeMap.Range.{IsRangeOf}
@@ -12,7 +12,7 @@ use Rattle.std.proofs.lemmas.Bool.Decides.{nat_tests}
 use Rattle.std.proofs.lemmas.Cmp.{nat_cmp_total, on_total, then_total}
 use Rattle.vb_pages.specs.declared.kept.KeptPage.{KeptPage}
 use Rattle.vb_pages.specs.declared.kept.PageKey.{PageKey}
-use Rattle.vb_pages.specs.Tables.{key_of, key_order, kept_at, Forgets, Puts}
+use Rattle.vb_pages.specs.Tables.{key_of, key_order, kept_at, kept_page, Forgets, Puts}
 
 -- keys are in a total order
 pub key_order-total : IsTotalOrder key_order
@@ -57,6 +57,17 @@ Forgets-updated old new slot page updates s k =
     by : (b : Bool) → option_map (λ (x : KeptPage). x.page) (cond b None (kept_at old (key_of s k))) ≡ (if b then None else option_map (λ (x : KeptPage). x.page) (kept_at old (key_of s k)))
     by true = refl
     by false = refl
+
+-- a table from which a key that was there is gone has one entry fewer
+pub fewer-removed : (old new : List (PageKey × KeptPage)) (slot page : ℕ) (removed : Option KeptPage) → IsSome (kept_page old slot page)
+    → removed ≡ kept_at old (key_of slot page) → length new + cond (is_some removed) 1 0 ≡ length old → length old ≡ length new + 1
+fewer-removed old new slot page removed there value len =
+    let some : is_some removed ≡ true = ap is_some value ∙ by (kept_at old (key_of slot page)) there in
+    sym len ∙ ap (λ b. length new + cond b 1 0) some
+  where
+    by : (o : Option KeptPage) → is_some (option_map (λ (x : KeptPage). x.page) o) ≡ true → is_some o ≡ true
+    by None h = h
+    by (Some kept) h = refl
 
 -- what isn't there is none
 none_unless : {X : Type 0} (o : Option X) → (IsSome o → ⊥) → o ≡ None

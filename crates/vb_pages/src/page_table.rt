@@ -71,6 +71,17 @@ impl PageTable {
         }
     }
 
+    /// The key of the first page that is kept, and None where none is.
+    pub fn first(&self) -> Option<PageKey>
+        ensures found { IfSome result (λ key. IsSome (kept_page self.now key.slot key.page)) }
+        ensures none { IfNone result (self.now ≡ []) }
+    {
+        match self.entries.first_key_value() {
+            Some((key, _)) => Some(*key),
+            None => None,
+        }
+    }
+
     /// Forgets all pages of a slot from this one on. It takes no memory.
     pub fn cut(&mut self, slot: u32, first: u32)
         ensures { Cuts self.old self.new slot first }
@@ -82,7 +93,8 @@ impl PageTable {
 
     /// Forgets one page of a slot. It takes no memory.
     pub fn forget(&mut self, slot: u32, page: u32)
-        ensures { Forgets self.old self.new slot page }
+        ensures forgotten { Forgets self.old self.new slot page }
+        ensures fewer { IsSome (kept_page self.old slot page) → length self.old ≡ length self.new + 1 }
     {
         self.entries.remove(&PageKey { slot, page });
     }

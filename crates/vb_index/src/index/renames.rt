@@ -6,7 +6,7 @@ ghost use Rattle.vb_tree.specs.Trees.{IsTree};
 ghost use Rattle.vb_tree.specs.Refusals.{refusal_of};
 ghost use Rattle.vb_tree.specs.Renames.{renamed};
 ghost use Rattle.vb_index.specs.Contents.{HasTree};
-ghost use Rattle.vb_index.specs.Indexes.{HasShapeOf, IsAnswer};
+ghost use Rattle.vb_index.specs.Indexes.{HasShapeOf, IsAnswer, KeepsLimits};
 ghost use Rattle.vb_index.specs.Moves.{renamed_nodes, replaced_slot};
 
 use super::Index;
@@ -36,6 +36,7 @@ impl Index {
         }) }
         ensures replaced { IfOk result
             (λ replaced. replaced ≡ replaced_slot source.now target.now self.old.nodes) }
+        ensures within { KeepsLimits self.old → KeepsLimits self.new }
         ensures err { OnErr result (self.new ≡ self.old) }
     {
         let slot = source_of(&self.table, source, target)?;

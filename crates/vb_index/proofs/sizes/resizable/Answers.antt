@@ -1,7 +1,11 @@
-use Rattle.std.proofs.Common.{refl, ap, ◌∙◌, arith}
+use Rattle.std.proofs.Common.{◌≡◌, ◌≤◌, set, Some, sym, subst, refl, ap, ◌∙◌, arith}
 use Rattle.std.proofs.lemmas.Result.{err_from_is_err_and}
 use Rattle.vb_tree.specs.Refusals.{refuse_resize}
 use Rattle.vb_tree.specs.Trees.{pages_of_length}
+use Rattle.vb_index.specs.declared.held.Held.{Held}
+use Rattle.vb_index.specs.Changes.{resized}
+use Rattle.vb_index.specs.Nodes.{pages_in}
+use Rattle.vb_index.proofs.PageSums.{resized_within}
 use Rattle.vb_index.proofs.Resizing.{file-none, file-some, file-refs, resize-checks, few-pages}
 use Rattle.vb_index.proofs.Tables.{among_totals}
 use Rattle.vb_index.proofs.sizes.resizable.Goals as goal
@@ -45,3 +49,10 @@ pub returns-clause-found : goal.returns-clause-found
 returns-clause-found c =
     let file = c.in_ok-old.ensures.file in
     record { table = c.pages-pages.ensures.table; at = c.in_ok-slot.ensures.found; file = file-refs c.args.table.now c.in_ok-slot.slot file.0 file.1 file.2 }
+
+pub returns-clause-room : goal.returns-clause-room
+returns-clause-room c = λ held e within.
+    let file = c.in_ok-old.ensures.file in
+    let P : Held → Type 0 = λ h. pages_in (set c.args.table.now c.in_ok-slot.slot (Some (resized c.args.len h))) ≤ c.args.limits.pages in
+    let same : file.0 ≡ held = (let both : Some file.0 ≡ Some held = sym file.1 ∙ e in cc) in
+    subst P same (resized_within c.args.limits c.args.table.now c.in_ok-slot.slot file.0 c.pages-pages.result c.in_ok-old.old c.args.len file.1 file.3 c.pages-pages.ensures.pages c.in_ok-check_room.ensures within)

@@ -8,6 +8,7 @@ use Rattle.vb_index.specs.Indexes.{HasShapeOf}
 use Rattle.vb_active.specs.Files.{IsFileOf}
 use Rattle.vb_active.specs.Replacing.{IsSpan}
 use Rattle.vb_active.specs.Views.{ActiveState}
+use Rattle.vb_active.proofs.Limited.{leaves-room, replaced-within, LeavesRoom}
 use Rattle.vb_active.proofs.Overwriting.{span-within, write-performs, write-refusal}
 use Rattle.vb_active.proofs.Reading.{refused-performs}
 use Rattle.vb_active.proofs.active.Active.write.Goals as goal
@@ -47,3 +48,10 @@ returns-in-Ok-replace-clause-performs g c =
     let Q : ActiveState → Type 0 = λ v. (tree : List TreeEntry) → HasShapeOf v.index.nodes tree → refuse_unless_file tree c.args.path.now (refuse_resize v.index.limits tree c.args.path.now c.length_after-len.result) ≡ None in
     write-performs (g.D.Disk.told c.args.disk.now) c.args.self.now c.replace.new.self c.args.path.now c.in-Ok.file.slot c.in-Ok.file.length c.length_after-len.result c.args.offset c.span_of-span.result.first c.span_of-span.result.last c.args.bytes.now c.in-Ok-written_run.run'.items
     (subst P c.self.view_is c.in-Ok.ensures.found) c.length_after-len.ensures c.in-Ok-judge_resize.ensures.short (subst T c.self.view_is c.in-Ok.ensures.refused) (subst Q c.self.view_is c.in-Ok-judge_resize.ensures.refused) span c.in-Ok-written_run.ensures.count within c.in-Ok-written_run.ensures.pages c.in-Ok-replace.ensures.ok
+
+pub returns-in-Ok-replace-clause-within : goal.returns-in-Ok-replace-clause-within
+returns-in-Ok-replace-clause-within g c =
+    let P : ActiveState → Type 0 = λ v. IsFileOf v.index.nodes c.args.path.now c.in-Ok.file.slot c.in-Ok.file.length in
+    let Q : ActiveState → Type 0 = λ v. LeavesRoom v.index c.args.path.now c.in-Ok-judge_resize.slot c.length_after-len.result in
+    replaced-within c.args.self.now c.replace.new.self c.args.path.now c.in-Ok.file.slot c.in-Ok-judge_resize.slot c.in-Ok.file.length c.length_after-len.result c.span_of-span.result.first c.in-Ok-written_run.run'.items
+    (subst P c.self.view_is c.in-Ok.ensures.found) (subst Q c.self.view_is (leaves-room c.self.inside.index c.args.path.now c.in-Ok-judge_resize.slot c.length_after-len.result c.in-Ok-judge_resize.ensures.found c.in-Ok-judge_resize.ensures.room)) c.in-Ok-replace.ensures.ok

@@ -1,7 +1,9 @@
-use Rattle.std.proofs.Common.{◌≡◌, ℕ, List, Option, sym, ap, ◌∙◌, subst}
+use Rattle.std.proofs.Common.{◌≡◌, ℕ, List, Option, sym, ap, ◌∙◌, subst, arith}
 use Rattle.vb_index.specs.declared.held.Held.{Held}
 use Rattle.vb_tree.specs.Trees.{name_of}
-use Rattle.vb_index.specs.Indexes.{IndexState, HasShapeOf}
+use Rattle.vb_index.specs.Indexes.{IndexState, HasShapeOf, KeepsLimits}
+use Rattle.vb_index.specs.Nodes.{pages_in}
+use Rattle.vb_index.proofs.PageSums.{no_more-moved}
 use Rattle.vb_index.specs.Heights.{MayStand}
 use Rattle.vb_index.specs.Moves.{with_place, without_slot, renamed_nodes, replaced_slot, MayPlace, MayReplace}
 use Rattle.vb_index.proofs.Heights.{may-stand}
@@ -65,3 +67,10 @@ returns-clause-contents c = λ pages tree has.
     (rename-allowed c.self.inside.limits tree source target (λ next. c.in_ok-slot.ensures.refused tree next here.shape) (sym c.eq.ensures ∙ c.if-eq.false) (c.in_ok-place.ensures.refused tree here.shape))
     c.in_ok-slot.ensures.source c.in_ok-slot.ensures.target (sym c.eq.ensures ∙ c.if-eq.false) c.in_ok-slot.ensures.found c.in_ok-place.ensures.found
     (c.in_ok-put_in_place.ensures.ok ∙ ap (λ n. with_place (without_slot c.self.inside.table c.in_ok-place.place.replaced) c.in_ok-slot.slot c.in_ok-place.place.folder n) (c.last_of-name.ensures ∙ ap name_of c.parts.ensures.same))
+
+pub returns-clause-within : goal.returns-clause-within
+returns-clause-within c = λ within.
+    let old : KeepsLimits (record { limits = c.self.inside.limits; nodes = c.self.inside.table }) = subst KeepsLimits (sym c.self.view_is) within in
+    let fewer = no_more-moved c.self.inside.table c.in_ok-slot.slot c.in_ok-place.place.folder c.last_of-name.result.now c.in_ok-place.place.replaced in
+    let same = ap pages_in c.in_ok-put_in_place.ensures.ok in
+    omega (arith, same, fewer, old)
