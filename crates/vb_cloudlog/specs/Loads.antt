@@ -87,6 +87,14 @@ abbrev pub LoadsLog : List ℕ → Option (List ℕ) → CloudState → Result (
 LoadsLog all told k (Ok done) = LoadsFrom all told (Ok k)
 LoadsLog all told k (Err refusal) = LoadsFrom all told (Err refusal)
 
+-- whether a cloud is loaded after a load: a fault and a refusal make the next call load anew, and want of memory leaves it
+abbrev pub is_loaded_after : {T : Type 0} → Result T LogRefusal → Bool → Bool
+is_loaded_after (Ok x) loaded = true
+is_loaded_after (Err (BadFrame at)) loaded = false
+is_loaded_after (Err (OutOfOrder at refusal)) loaded = false
+is_loaded_after (Err LogFault) loaded = false
+is_loaded_after (Err Memory) loaded = loaded
+
 -- the own faults after a load: one more where the log has a frame that is wrong or refused
 abbrev pub own_after : {T : Type 0} → Result T LogRefusal → ℕ → ℕ
 own_after (Ok x) n = n

@@ -1,7 +1,7 @@
 // Appends a frame to a log.
-ghost use Rattle.std.specs.Prelude.{◌≡◌, List, ℕ, Some, None};
+ghost use Rattle.std.specs.Prelude.{◌≡◌, List, ℕ, Some, None, OnOk};
 ghost use Rattle.vb_cause.specs.Causes.{HasCause};
-ghost use Rattle.vb_cloudlog.specs.Sends.{AppendsTo};
+ghost use Rattle.vb_cloudlog.specs.Sends.{calls_after, AppendsTo};
 
 use vb_disk::{LogError, LogFile};
 
@@ -14,6 +14,7 @@ pub(crate) fn append_frame<F: LogFile>(
     ensures appends { (all : List ℕ) → F.told file.old ≡ Some all → AppendsTo all frame.now (F.told file.new) result }
     ensures untold { F.told file.old ≡ None → F.told file.new ≡ None }
     ensures cause { HasCause LogError.Failed (F.faults file.old) (F.faults file.new) result }
+    ensures called { OnOk result (F.calls file.new ≡ calls_after lasts (F.calls file.old)) }
 {
     match file.append(frame) {
         Ok(()) => {}

@@ -10,6 +10,7 @@ ghost use Rattle.vb_link.specs.Links.{AnswersSend, AnswersFetch, TellsShown, Fet
 ghost use Rattle.vb_link.specs.Views.{view_of, info_of, entry_in, digest_in, page_in};
 ghost use Rattle.vb_cloudlog.specs.Laws.{reached_by, valid_by, agree_by};
 ghost use Rattle.vb_cloudlog.specs.Loads.{frames_part, told_by, shown_by, added_faults, CountsOwn};
+ghost use Rattle.vb_cloudlog.specs.Sends.{CallsForSend};
 
 use crate::LogCloud;
 use vb_block::{Digest, Page};
@@ -43,6 +44,7 @@ impl<F: LogFile> Link for LogCloud<F> {
             (F.told self.new.file)) result }
         ensures appended { (all : List ℕ) → F.told self.old.file ≡ Some all
             → OnOk result (F.told self.new.file ≡ Some (frames_part all ++ frame msg.now)) }
+        ensures once { self.old.is_loaded ≡ true → CallsForSend msg.now (F.calls self.old.file) (F.calls self.new.file) result }
         ensures untold { told_by (F.told self.old.file) ≡ None → told_by (F.told self.new.file) ≡ None }
         ensures cause { HasLinkCause (added_faults (F.faults self.old.file) self.old.own) (added_faults
             (F.faults self.new.file) self.new.own) result }
@@ -74,6 +76,7 @@ impl<F: LogFile> Link for LogCloud<F> {
         ensures called { self.new.calls ≡ counted self.old.calls }
         ensures left { UsesFailures LinkError.Failed None None result }
         ensures sent { self.new.sends ≡ self.old.sends }
+        ensures quiet { self.old.is_loaded ≡ true → F.calls self.new.file ≡ F.calls self.old.file }
         ensures never_refused { (refusal : CloudRefusal) → IsErrOf result (LinkError.Refused refusal) → ⊥ }
     {
         self.calls = raised(self.calls);
@@ -101,6 +104,7 @@ impl<F: LogFile> Link for LogCloud<F> {
         ensures called { self.new.calls ≡ counted self.old.calls }
         ensures left { UsesFailures LinkError.Failed None None result }
         ensures sent { self.new.sends ≡ self.old.sends }
+        ensures quiet { self.old.is_loaded ≡ true → F.calls self.new.file ≡ F.calls self.old.file }
     {
         self.calls = raised(self.calls);
         match self.ready() {
@@ -132,6 +136,7 @@ impl<F: LogFile> Link for LogCloud<F> {
         ensures own { CountsOwn result (F.faults self.old.file) (F.faults self.new.file) self.old.own self.new.own }
         ensures called { self.new.calls ≡ counted self.old.calls }
         ensures sent { self.new.sends ≡ self.old.sends }
+        ensures quiet { self.old.is_loaded ≡ true → F.calls self.new.file ≡ F.calls self.old.file }
     {
         self.calls = raised(self.calls);
         match self.ready() {

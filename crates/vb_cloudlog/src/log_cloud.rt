@@ -33,7 +33,7 @@ impl<F: LogFile> LogCloud<F> {
     ghost use Rattle.std.specs.Prelude.{◌≡◌, ◌≤◌, true, false, List, ℕ, Some, None, OnOk, OnErr, IsErrOf, IfOk};
     ghost use Rattle.vb_cause.specs.Causes.{HasCause};
     ghost use Rattle.vb_cause.specs.Faults.{counted};
-    ghost use Rattle.vb_cloudlog.specs.Loads.{frames_part, LoadsLog, told_by, shown_by, added_faults, own_after, CountsOwn};
+    ghost use Rattle.vb_cloudlog.specs.Loads.{frames_part, LoadsLog, told_by, shown_by, added_faults, is_loaded_after, own_after, CountsOwn};
     ghost use Rattle.vb_link.specs.Links.{HasLinkCause};
     ghost use Rattle.vb_link.specs.Views.{LinkView};
 
@@ -72,14 +72,15 @@ impl<F: LogFile> LogCloud<F> {
     }
 
     /// Reads the log from its start, cuts away what is less than a frame at its end, and holds the cloud after the frames.
-    /// A log with a frame that is wrong or refused stays as it is. A load that finds no memory leaves what was loaded.
+    /// A log with a frame that is wrong or refused stays as it is, and the next call of the link loads anew; so it does
+    /// after a fault. A load that finds no memory leaves what was loaded.
     pub fn load(&mut self) -> Result<(), LogRefusal>
         ensures loads { (all : List ℕ) → F.told self.old.file ≡ Some all → LoadsLog all (F.told self.new.file) self.new.cloud result }
         ensures untold { F.told self.old.file ≡ None → F.told self.new.file ≡ None }
         ensures cause { HasCause LogRefusal.LogFault (F.faults self.old.file) (F.faults self.new.file) result }
         ensures own { self.new.own ≡ own_after result self.old.own }
-        ensures loaded { OnOk result (self.new.is_loaded ≡ true) }
-        ensures kept { IsErrOf result LogRefusal.Memory → (self.new.is_loaded ≡ self.old.is_loaded) × (self.new.cloud ≡ self.old.cloud) }
+        ensures loaded { self.new.is_loaded ≡ is_loaded_after result self.old.is_loaded }
+        ensures kept { IsErrOf result LogRefusal.Memory → self.new.cloud ≡ self.old.cloud }
         ensures calls { self.new.calls ≡ self.old.calls }
         ensures sends { self.new.sends ≡ self.old.sends }
     {
@@ -110,6 +111,7 @@ impl<F: LogFile> LogCloud<F> {
         ensures stays { (v : LinkView) → shown_by self.old.is_loaded (told_by (F.told self.old.file)) self.old.cloud ≡ Some v
             → shown_by self.new.is_loaded (told_by (F.told self.new.file)) self.new.cloud ≡ Some v }
         ensures loaded { OnOk result (self.new.is_loaded ≡ true) }
+        ensures quiet { self.old.is_loaded ≡ true → F.calls self.new.file ≡ F.calls self.old.file }
         ensures cause { HasLinkCause (added_faults (F.faults self.old.file) self.old.own) (added_faults
             (F.faults self.new.file) self.new.own) result }
         ensures faults { F.faults self.old.file ≤ F.faults self.new.file }

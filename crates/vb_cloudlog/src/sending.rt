@@ -4,6 +4,7 @@ ghost use Rattle.vb_msg.specs.Frames.{frame};
 ghost use Rattle.vb_cloud.specs.Machine.{CloudState};
 ghost use Rattle.vb_cloud.specs.declared.refusal.CloudRefusal.{CloudRefusal};
 ghost use Rattle.vb_cloudlog.specs.Loads.{told_by, added_faults, CountsOwn};
+ghost use Rattle.vb_cloudlog.specs.Sends.{has_to_last, CallsForSend};
 ghost use Rattle.vb_link.specs.Links.{AnswersSend, HasLinkCause};
 
 use crate::LogCloud;
@@ -13,6 +14,13 @@ use vb_cloud::CloudRefusal;
 use vb_disk::{LogError, LogFile};
 use vb_link::LinkError;
 use vb_msg::{Msg, encode};
+
+// Whether the frame of a message has to last before its answer.
+fn has_to_last(msg: &Msg) -> bool
+    ensures { result ≡ has_to_last msg.now }
+{
+    matches!(msg, Msg::Publish { .. })
+}
 
 impl<F: LogFile> LogCloud<F> {
     // Asks the machine, and takes the memory, before a byte is appended. Where the append or the sync fails, or the append
@@ -28,6 +36,7 @@ impl<F: LogFile> LogCloud<F> {
             (F.faults self.new.file) self.new.own) result }
         ensures own { CountsOwn result (F.faults self.old.file) (F.faults self.new.file) self.old.own self.new.own }
         ensures no_memory { IsErrOf result (LinkError.Refused CloudRefusal.Memory) → ⊥ }
+        ensures called { CallsForSend msg.now (F.calls self.old.file) (F.calls self.new.file) result }
         ensures calls { self.new.calls ≡ self.old.calls }
         ensures sends { self.new.sends ≡ self.old.sends }
     {
@@ -43,7 +52,7 @@ impl<F: LogFile> LogCloud<F> {
                 return Err(LinkError::Refused(refusal));
             }
         }
-        let lasts = matches!(msg, Msg::Publish { .. });
+        let lasts = has_to_last(msg);
         self.is_loaded = false;
         match append_frame(&mut self.file, frame.slice(), lasts) {
             Ok(()) => {

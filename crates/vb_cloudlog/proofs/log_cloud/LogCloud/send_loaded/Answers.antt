@@ -18,6 +18,7 @@ returns-in-Err-apply g c =
       cause = refused-cause (g.F.LogFile.faults l.file) l.own c.raised-self.result c.in-Err-apply.refusal c.raised-self.ensures;
       own = c.raised-self.ensures;
       no_memory = search rules;
+      called = refl;
       calls = refl;
       sends = refl;
     }
