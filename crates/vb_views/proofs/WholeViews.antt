@@ -81,7 +81,7 @@ same_found : (r s : Recovered) → (let a : Result Recovered RecoverError = Ok r
 same_found r s same = let one : r ≡ s = cc same in ap (λ (x : Recovered). x.head.sequence) one
 
 -- a crash leaves no new images before the heads are opened
-not_yet : (head : Head) (epoch : ℕ) (images : List (List ℕ)) (homes : ℕ → List ℕ) (new : DiskState) → RecoversButHurt new head homes ⊎ IsRefusedAsHurt head.nodes 0 new → RecoversWholly new (closed_head head epoch) (new_images images homes) → ⊥
+pub not_yet : (head : Head) (epoch : ℕ) (images : List (List ℕ)) (homes : ℕ → List ℕ) (new : DiskState) → RecoversButHurt new head homes ⊎ IsRefusedAsHurt head.nodes 0 new → RecoversWholly new (closed_head head epoch) (new_images images homes) → ⊥
 not_yet head epoch images homes new (inl recovers) wholly =
     let was : Recovered = record { head = head; images = recovers.found } in
     let is : Recovered = record { head = closed_head head epoch; images = pages_from (new_images images homes) 0 head.nodes } in
