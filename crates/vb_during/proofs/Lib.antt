@@ -4,3 +4,8 @@ pub mod NextHeld
 pub mod WholeCommits
 pub mod Following
 pub mod WholeSteps
+pub mod TornReads
+pub mod TornViews
+pub mod TornEnds
+pub mod LoneMaps
+pub mod HistoriesKept

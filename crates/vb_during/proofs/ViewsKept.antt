@@ -70,7 +70,7 @@ stands_size homes journal head epoch images (p ∷ pages) stage d is = is.size
 known_size : (source : ℕ → ℕ → List ℕ) (homes journal : ℕ → List ℕ) (plan : List PlanPage) (s : WayState) (d : DiskState) → IsCommittingFor source homes journal plan s d → d.size ≡ s.head.blocks
 known_size source homes journal plan s d k = stands_size homes journal s.head s.epoch s.images s.pages s.stage d k.store
 
-no_first : (places : List ℕ) (pages : List PlanPage) (place : ℕ) → All (λ p. Contains places (place_of p) → ⊥) pages → Contains places place → IsNoFirst pages place
+pub no_first : (places : List ℕ) (pages : List PlanPage) (place : ℕ) → All (λ p. Contains places (place_of p) → ⊥) pages → Contains places place → IsNoFirst pages place
 no_first places [] place apart named = tt
 no_first places (p ∷ pages) place apart named = λ same. All-head (λ q. Contains places (place_of q) → ⊥) p pages apart (subst (Contains places) same named)
 

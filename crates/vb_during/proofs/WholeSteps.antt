@@ -133,7 +133,7 @@ journal_whole v (Closing turn) d both follows can w = due_whole v (Closing turn)
 journal_whole v Rested d both follows can w = w
 
 -- a call that failed was made or wasn't
-tried : (call : DiskCall) (d left : DiskState) → ChangeMayFailTo call d left → (left ≡ d) ⊎ (left ≡ after_call d call)
+pub tried : (call : DiskCall) (d left : DiskState) → ChangeMayFailTo call d left → (left ≡ d) ⊎ (left ≡ after_call d call)
 tried (Write place page) d left may = may
 tried Sync d left may = inl may
 tried (Resize blocks) d left may = inl may
@@ -208,7 +208,7 @@ lost_parts v (p ∷ rest) stage given d left both can waits apart (inr made) w =
 -- ---- a step
 
 -- what is said of the head, the epoch and the images of a view's commit, of a commit on its way that is the view's
-of_view : (Q : Head → ℕ → List (List ℕ) → Type 0) (v : ViewCommit) (s : WayState) → IsWayOf v s → Q v.head v.epoch (plan_for v).images → Q s.head s.epoch s.images
+pub of_view : (Q : Head → ℕ → List (List ℕ) → Type 0) (v : ViewCommit) (s : WayState) → IsWayOf v s → Q v.head v.epoch (plan_for v).images → Q s.head s.epoch s.images
 of_view Q v s of is =
     subst (λ (h : Head). Q h s.epoch s.images) (sym of.head)
     (subst (λ (n : ℕ). Q v.head n s.images) (sym of.epoch)
@@ -220,10 +220,10 @@ as_parts v s d w = record { unharmed = w.view.unharmed; places = w.view.places; 
 of_parts : (v : ViewCommit) (s : WayState) (d : DiskState) → IsKeptWhole v s.pages s.stage d → StaysWhole v s d
 of_parts v s d w = record { view = record { unharmed = w.unharmed; places = w.places }; placed = w.placed }
 
-both_of : (v : ViewCommit) (s : WayState) (d : DiskState) → IsCommittingView v s d → HasBoth v
+pub both_of : (v : ViewCommit) (s : WayState) (d : DiskState) → IsCommittingView v s d → HasBoth v
 both_of v s d k = record { old = k.holds.view; new = k.follows.view }
 
-apart_left : (v : ViewCommit) (s : WayState) (d : DiskState) → IsCommittingView v s d → All (λ p. Contains (places_in v.old.nodes) (place_of p) → ⊥) s.pages
+pub apart_left : (v : ViewCommit) (s : WayState) (d : DiskState) → IsCommittingView v s d → All (λ p. Contains (places_in v.old.nodes) (place_of p) → ⊥) s.pages
 apart_left v s d k =
     let Apart : PlanPage → Type 0 = λ p. Contains (places_in v.old.nodes) (place_of p) → ⊥ in
     all_rest Apart k.known.placed s.pages (subst (All Apart) (sym k.known.of_plan) k.follows.apart)
@@ -240,7 +240,7 @@ step_lost v s given d left may k w =
     (lost_parts v s.pages s.stage given d left (both_of v s d k) (at-own CanFinish v s k.of k.of.way.can.finish) k.of.way.waits (apart_left v s d k)
     (at-own (λ head epoch images. MayFailTo (first_call s.pages given (journals.call_at head epoch images s.stage)) d left) v s k.of may) (as_parts v s d w))
 
-same_told : (a b : DiskState) → (let x : Option DiskState = Some a in x ≡ Some b) → a ≡ b
+pub same_told : (a b : DiskState) → (let x : Option DiskState = Some a in x ≡ Some b) → a ≡ b
 same_told a b same = cc same
 
 pub step-whole : (v : ViewCommit) (given : Option (List ℕ)) (old new : WayState) (before after : DiskView) (result : Result CommitStep DiskError) (d next : DiskState) → WaySteps old given new before after result → before.told ≡ Some d → after.told ≡ Some next → IsCommittingView v old d → StaysWhole v old d → StaysWhole v new next

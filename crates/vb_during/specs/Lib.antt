@@ -1,1 +1,3 @@
 pub mod During
+pub mod TornPages
+pub mod Histories

@@ -1,5 +1,5 @@
 // What a disk has and recovers while the commit of a view is on its way.
-ghost use Rattle.std.specs.Prelude.{◌≡◌, ◌≤◌, ◌≢◌, [], ℕ, Bool, false, List, All, Contains, Option, Some, Result};
+ghost use Rattle.std.specs.Prelude.{◌≡◌, ◌≤◌, ◌≢◌, ◌∷◌, [], ℕ, Bool, false, List, All, Contains, Option, Some, Result};
 ghost use Rattle.vb_commit.specs.Known.{IsCommittingFor};
 ghost use Rattle.vb_commit.specs.Steps.{WaySteps};
 ghost use Rattle.vb_commit.specs.Ways.{bytes_in, IsGivenFrom, WayState};
@@ -8,8 +8,12 @@ ghost use Rattle.vb_disk.specs.declared.disk_error.DiskError.{DiskError};
 ghost use Rattle.vb_disk.specs.States.{written, DiskState, IsDiskState};
 ghost use Rattle.vb_during.specs.During.{commit_over, head_after, plan_for, views_at, CanStart, Follows, ViewCommit};
 ghost use Rattle.vb_during.specs.During.{HoldsKept, IsCommittingView, IsWayOf, IsWholeView, LeadsTo, RecoversWhole, StaysWhole};
+ghost use Rattle.vb_during.specs.Histories.{both_views, EachCrashShows, Event, IsHistory, IsStepOf, IsUnharmedBy, StepMade};
+ghost use Rattle.vb_during.specs.TornPages.{HasLoneMaps, IsAllWhole, IsUntorn, RecoversAnEnd};
+ghost use Rattle.vb_head.specs.declared.head.Head.{Head};
 ghost use Rattle.vb_index.specs.Contents.{HasTree};
 ghost use Rattle.vb_index.specs.Heights.{IsRooted};
+ghost use Rattle.vb_index.specs.Indexes.{IndexState};
 ghost use Rattle.vb_index.specs.Nodes.{IsTable};
 ghost use Rattle.vb_inode.specs.declared.next_view.NextNode.{NextNode};
 ghost use Rattle.vb_journal.specs.declared.commit_stage.CommitStep.{CommitStep};
@@ -25,7 +29,7 @@ ghost use Rattle.vb_store.specs.Views.{data_start, places_in, ViewState};
 ghost use Rattle.vb_tree.specs.declared.tree.TreeEntry.{TreeEntry};
 ghost use Rattle.vb_views.specs.Commits.{IsPageOf};
 ghost use Rattle.vb_views.specs.AtRest.{IsAtRestFor, IsViewOf};
-ghost use Rattle.vb_views.specs.Reads.{pages_by, GiveCandidates, RecoverOneOf};
+ghost use Rattle.vb_views.specs.Reads.{pages_by, tree_view, GiveCandidates, RecoverOneOf};
 
 /// The next view of a commit that is started over a view follows the committed one, where the index that its plan makes
 /// is as each index is, the pages given have the digests of the plan, and the tree is that of the nodes over them. It
@@ -92,4 +96,38 @@ pub fn a_whole_commit_of_a_view_recovers_a_tree()
     ensures step { (v : ViewCommit) (given : Option (List ℕ)) (old new : WayState) (before after : DiskView)
         (result : Result CommitStep DiskError) (d next : DiskState) → WaySteps old given new before after result → before.told ≡ Some d
         → after.told ≡ Some next → IsCommittingView v old d → StaysWhole v old d → StaysWhole v new next }
+{}
+
+/// Where no place was hurt before it, and each map page of the views is the only candidate of its place, a crash shows one
+/// of the views and isn't refused: what is recovered is what the first candidates of all places recover, or the last
+/// ones, or nothing can be read at a page of data that had two or more candidates. At rest it is so with the one view; and
+/// a step of a commit keeps it so, with or without an error, as no call hurts a place. It does nothing.
+pub fn a_crash_recovers_an_end_or_tears_a_page()
+    ensures rest { (head : Head) (index : IndexState) (d new : DiskState) (tree : List TreeEntry) → IsViewOf head index → IsDiskState d
+        → IsAtRestFor head index d → HasTree index.nodes (pages_by (first_candidates d) index.nodes) tree → IsAllWhole d
+        → HasLoneMaps index.nodes d → MayCrashTo d new → RecoversAnEnd (tree_view head index tree ∷ []) d new }
+    ensures commit { (v : ViewCommit) (s : WayState) (d new : DiskState) → IsDiskState d → IsCommittingView v s d → IsUntorn v s.stage d
+        → MayCrashTo d new → RecoversAnEnd (views_at v s.stage) d new }
+    ensures step { (v : ViewCommit) (given : Option (List ℕ)) (old new : WayState) (before after : DiskView)
+        (result : Result CommitStep DiskError) (d next : DiskState) → WaySteps old given new before after result → before.told ≡ Some d
+        → after.told ≡ Some next → IsCommittingView v old d → IsUntorn v old.stage d → IsUntorn v new.stage next }
+{}
+
+/// Over each history of a commit of a view, whose steps may end in errors and between which any place may be damaged, the
+/// commit stays on its way, and the committed view or the next one may be recovered, and no other; so shows each crash at
+/// each moment within its last step. Where no place is damaged, each crash recovers one of both exactly, as at the stage
+/// that it came to, if it did so before. It does nothing.
+pub fn a_history_of_a_commit_recovers_one_of_both_views()
+    ensures known { (v : ViewCommit) (s last : WayState) (d end : DiskState) (events : List Event) → IsCommittingView v s d
+        → IsHistory v.source s d events last end → IsCommittingView v last end }
+    ensures one_of { (v : ViewCommit) (s last : WayState) (d end : DiskState) (events : List Event) → IsCommittingView v s d
+        → IsHistory v.source s d events last end → RecoversOneOf (both_views v) false end }
+    ensures crash { (v : ViewCommit) (s last : WayState) (d end next : DiskState) (events : List Event) (step : StepMade)
+        → IsCommittingView v s d → IsHistory v.source s d events last end → IsStepOf v.source last end step
+        → step.after.told ≡ Some next → EachCrashShows v end next }
+    ensures whole { (v : ViewCommit) (s last : WayState) (d end : DiskState) (events : List Event) → IsUnharmedBy events
+        → IsCommittingView v s d → StaysWhole v s d → IsHistory v.source s d events last end → StaysWhole v last end }
+    ensures exact { (v : ViewCommit) (s last : WayState) (d end : DiskState) (events : List Event) → IsUnharmedBy events
+        → IsCommittingView v s d → StaysWhole v s d → IsHistory v.source s d events last end → IsDiskState end
+        → RecoversWhole v last.stage end }
 {}
