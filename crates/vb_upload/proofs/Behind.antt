@@ -9,7 +9,7 @@ use Rattle.vb_tree.specs.Trees.{data_pages_of}
 use Rattle.vb_frozen.specs.declared.entry.FrozenEntry.{FrozenEntry}
 use Rattle.vb_upload.specs.declared.cursor.Cursor.TheVariants.{Begin, Entry, Page, Sealed}
 use Rattle.vb_upload.specs.Cursors.{counts_of, AllCanBeSent, CanBeSent, IsBehind, IsFileWith, IsLast}
-use Rattle.vb_upload.specs.Plans.{messages_for, total_of}
+use Rattle.vb_publish.specs.Plans.{messages_for, total_of}
 
 pub total-more : (counts : List ℕ) (i n : ℕ) → slice_get counts i ≡ Some n → total_of (take (i + 1) counts) ≡ total_of (take i counts) + n
 total-more [] i n h = absurd (cc h)

@@ -1,12 +1,6 @@
 pub mod Behind
 pub mod Cuts
 pub mod Due
-pub mod GoesOn
-pub mod Growing
-pub mod Lengths
-pub mod Names
 pub mod Positions
-pub mod Rows
-pub mod Shown
 pub mod Standing
-pub mod Taken
+pub mod Within

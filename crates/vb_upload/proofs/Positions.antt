@@ -20,11 +20,11 @@ use Rattle.vb_upload.specs.declared.answer.UploadError.{UploadError}
 use Rattle.vb_upload.specs.declared.cursor.Cursor.{Cursor}
 use Rattle.vb_upload.specs.declared.cursor.Cursor.TheVariants as at
 use Rattle.vb_upload.specs.Cursors.{counts_of, first_message, message_of_entry, sent_at, IsFileWith, IsPageMessage, IsUploadOf, StandsIn}
-use Rattle.vb_upload.specs.Messages.{enter_named, epoch_named, path_named}
-use Rattle.vb_upload.specs.Plans.{part_at, parts_of, messages_by, entry_messages, messages_for, counts_of_tree, total_of, upload_plan}
+use Rattle.vb_publish.specs.Messages.{enter_named, epoch_named, path_named}
+use Rattle.vb_publish.specs.Plans.{part_at, parts_of, messages_by, entry_messages, messages_for, counts_of_tree, total_of, upload_plan}
 use Rattle.vb_upload.specs.Steps.{IsPlanned}
 use Rattle.vb_upload.proofs.Behind.{count-by, some-entry, total-more}
-use Rattle.vb_upload.proofs.Lengths.{length-by, length-entries, length-parts}
+use Rattle.vb_publish.proofs.Lengths.{length-by, length-entries, length-parts}
 
 -- ---- places in lists
 

@@ -17,7 +17,7 @@ use Rattle.vb_frozen.specs.Orders.{entry_for, order_of, slot_of, with_ref, with_
 use Rattle.vb_upload.specs.declared.cursor.Cursor.{Cursor}
 use Rattle.vb_upload.specs.declared.cursor.Cursor.TheVariants.{Begin, Entry, Page, Sealed}
 use Rattle.vb_upload.specs.Cursors.{counts_of, AllCanBeSent, CanBeSent, IsFileWith, StandsIn}
-use Rattle.vb_upload.specs.Plans.{messages_for}
+use Rattle.vb_publish.specs.Plans.{messages_for}
 
 -- ---- a settled page
 

@@ -15,8 +15,8 @@ use Rattle.vb_upload.specs.declared.cursor.Cursor.{Cursor}
 use Rattle.vb_upload.specs.declared.cursor.Cursor.TheVariants.{Begin, Entry, Page, Sealed}
 use Rattle.vb_msg.specs.declared.message.Msg.{Msg}
 use Rattle.vb_msg.specs.declared.message.Msg.TheVariants.{Object, Seal, Publish}
-use Rattle.vb_upload.specs.Messages.{enter_named, epoch_named, path_named}
-use Rattle.vb_upload.specs.Plans.{messages_for, part_at, plan_length, total_of}
+use Rattle.vb_publish.specs.Messages.{enter_named, epoch_named, path_named}
+use Rattle.vb_publish.specs.Plans.{messages_for, part_at, plan_length, total_of}
 
 -- an entry that can be sent: its path is one and not the root, it isn't longer than a file may be, and each of its pages
 -- has a reference

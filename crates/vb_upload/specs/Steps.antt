@@ -18,13 +18,13 @@ use Rattle.vb_cloud.specs.Machine.{CloudState, cloud_step}
 use Rattle.vb_link.specs.Links.{IsTold, KeepsFailures}
 use Rattle.vb_upload.specs.declared.answer.UploadError.{UploadError}
 use Rattle.vb_upload.specs.declared.answer.UploadError.TheVariants.{Damaged, DiskFault, LinkFault, Memory}
-use Rattle.vb_upload.specs.declared.answer.UploadStep.{UploadStep}
-use Rattle.vb_upload.specs.declared.answer.UploadStep.TheVariants.{Sent, Kept, Published, Asked, Nothing}
+use Rattle.vb_publish.specs.declared.step.UploadStep.{UploadStep}
+use Rattle.vb_publish.specs.declared.step.UploadStep.TheVariants.{Sent, Kept, Published, Asked, Nothing}
 use Rattle.vb_upload.specs.declared.cursor.Cursor.{Cursor}
 use Rattle.vb_upload.specs.declared.cursor.Cursor.TheVariants.{Begin, Entry, Page, Sealed}
 use Rattle.vb_upload.specs.declared.upload.Upload.{Upload}
 use Rattle.vb_upload.specs.Cursors.{counts_of, sent_at, IsBehind, IsLast, IsUploadOf}
-use Rattle.vb_upload.specs.Plans.{upload_plan}
+use Rattle.vb_publish.specs.Plans.{upload_plan}
 
 -- the epoch that an upload publishes
 abbrev pub epoch_of : Upload → ℕ

@@ -6,21 +6,6 @@ use std::alloc::AllocError;
 use thiserror::Error;
 use vb_block::Digest;
 
-/// What a step of an upload did. One of `Upload` answers Sent or Published.
-#[derive(Clone, Copy, Debug, PartialEq, Eq)]
-pub enum UploadStep {
-    /// A message was sent, and it wasn't the last.
-    Sent,
-    /// A file was sent as one that is published already.
-    Kept,
-    /// The view of this epoch is published.
-    Published { epoch: u64 },
-    /// The cloud was asked, and shows another epoch than the one in doubt.
-    Asked,
-    /// There is nothing to send.
-    Nothing,
-}
-
 /// Why a step of an upload didn't send its message, or doesn't know that it came.
 #[derive(Clone, Copy, Debug, PartialEq, Eq, Error)]
 pub enum UploadError {

@@ -10,8 +10,8 @@ ghost use Rattle.vb_tree.specs.Contents.{page_of, part_of};
 ghost use Rattle.vb_tree.specs.Trees.{data_pages_of};
 ghost use Rattle.vb_tree.specs.declared.tree.TreeEntry.{TreeEntry};
 ghost use Rattle.vb_upload.specs.Cursors.{message_of_entry, AllCanBeSent, CanBeSent, IsFileWith, IsPageMessage, IsUploadOf, StandsIn};
-ghost use Rattle.vb_upload.specs.Messages.{enter_named, path_named};
-ghost use Rattle.vb_upload.specs.Plans.{part_at};
+ghost use Rattle.vb_publish.specs.Messages.{enter_named, path_named};
+ghost use Rattle.vb_publish.specs.Plans.{part_at};
 ghost use Rattle.vb_upload.specs.Steps.{epoch_of, cursor_of, sent_of, due_ref, upload_error_of, IsPlanned, TellsDue};
 
 use crate::cursor::pages_of;
@@ -60,7 +60,7 @@ pub(crate) fn next_message<D: Disk>(
 }
 
 // The first message of an entry, and the publication past the last one.
-#[tactic(auto, using(crate::proofs::Names::named))]
+#[tactic(auto, using(vb_publish::proofs::Names::named))]
 fn entry_message(alloc: Global, epoch: Epoch, frozen: &Frozen, i: usize) -> Result<Msg, AllocError>
     requires sendable { AllCanBeSent frozen.now.order }
     requires within { i ≤ length frozen.now.order }
@@ -77,7 +77,7 @@ fn entry_message(alloc: Global, epoch: Epoch, frozen: &Frozen, i: usize) -> Resu
 }
 
 // An entry enters.
-#[tactic(auto, using(crate::proofs::Names::named))]
+#[tactic(auto, using(vb_publish::proofs::Names::named))]
 fn enter_message(alloc: Global, entry: &FrozenEntry, kind: Kind) -> Result<Msg, AllocError>
     requires { CanBeSent entry.now }
     ensures { IfOk result (λ m. m ≡ enter_named (path_named entry.now.path) kind) }
@@ -169,7 +169,7 @@ fn upload_error(i: usize, page: u32, error: PageError) -> UploadError
 }
 
 // The part of a page of some bytes, which ends where they do.
-#[tactic(auto, using(crate::proofs::Names::named))]
+#[tactic(auto, using(vb_publish::proofs::Names::named))]
 fn part_message(alloc: Global, given: &Page, len: u64, page: u32) -> Result<Msg, AllocError>
     requires { page < data_pages_of len }
     ensures { (bytes : List ℕ) → length bytes ≡ len → given.now ≡ page_of bytes page → IfOk result (λ m. m ≡ part_at bytes page) }

@@ -1,5 +1,5 @@
 use Rattle.std.proofs.Common.{◌∙◌}
-use Rattle.vb_upload.proofs.Names.{enter-same}
+use Rattle.vb_publish.proofs.Names.{enter-same}
 use Rattle.vb_upload.proofs.message.enter_message.Goals as goal
 
 pub returns : goal.returns

@@ -2,7 +2,7 @@ use Rattle.std.proofs.Common.{refl, sym, ap, ◌∙◌, arith}
 use Rattle.std.proofs.lemmas.Option.{slice_get_past}
 use Rattle.vb_upload.specs.Cursors.{message_of_entry}
 use Rattle.vb_upload.proofs.Behind.{sendable-at}
-use Rattle.vb_upload.proofs.Names.{publish-same}
+use Rattle.vb_publish.proofs.Names.{publish-same}
 use Rattle.vb_upload.proofs.message.entry_message.Goals as goal
 
 pub returns-then-i-count : goal.returns-then-i-count

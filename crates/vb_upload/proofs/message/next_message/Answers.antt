@@ -2,7 +2,7 @@ use Rattle.std.proofs.Common.{ℕ, sym, ap, ◌∙◌, slice_get}
 use Rattle.vb_upload.specs.Cursors.{message_of_entry}
 use Rattle.vb_upload.specs.Steps.{epoch_of, cursor_of}
 use Rattle.vb_upload.proofs.Positions.{next-begin, next-entry, next-page, next-sealed}
-use Rattle.vb_upload.proofs.Names.{begin-same}
+use Rattle.vb_publish.proofs.Names.{begin-same}
 use Rattle.vb_upload.proofs.message.next_message.Goals as goal
 
 pub returns-in-Begin-clause-planned : goal.returns-in-Begin-clause-planned

@@ -1,6 +1,6 @@
 use Rattle.std.proofs.Common.{◌*◌}
 use Rattle.vb_tree.specs.Contents.{part_of}
-use Rattle.vb_upload.proofs.Names.{part-same}
+use Rattle.vb_publish.proofs.Names.{part-same}
 use Rattle.vb_upload.proofs.message.part_message.Goals as goal
 
 pub returns : goal.returns

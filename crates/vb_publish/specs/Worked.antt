@@ -5,8 +5,8 @@ use Rattle.vb_tree.specs.declared.tree.Kind.TheVariants.{Folder, File}
 use Rattle.vb_tree.specs.declared.tree.TreeEntry.{TreeEntry}
 use Rattle.vb_msg.specs.declared.message.Msg.{Msg}
 use Rattle.vb_msg.specs.declared.message.Msg.TheVariants.{Begin, Object, Seal, Publish}
-use Rattle.vb_upload.specs.Messages.{enter_named, epoch_named, path_named}
-use Rattle.vb_upload.specs.Plans.{part_at}
+use Rattle.vb_publish.specs.Messages.{enter_named, epoch_named, path_named}
+use Rattle.vb_publish.specs.Plans.{part_at}
 
 -- the entry of a path, a kind and some bytes
 abbrev pub entry_with : List (List ℕ) → Kind → List ℕ → TreeEntry

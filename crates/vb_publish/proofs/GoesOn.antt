@@ -1,30 +1,15 @@
 -- A cloud that has taken the first messages of a plan takes the next one.
-use Rattle.std.proofs.Common.{◌≡◌, ℕ, zero, suc, ◌+◌, ◌<◌, ◌≤◌, inl, inr, List, [], ◌∷◌, take, Some, None, is_some, Ok, refl, sym, ap, subst, ◌∙◌, arith, slice_get}
-use Rattle.std.specs.Prelude.{IsOk, IsSome}
-use Rattle.std.proofs.lemmas.Option.{slice_get-get_or}
-use Rattle.vb_disk.specs.States.{DiskState}
+use Rattle.std.proofs.Common.{◌≡◌, ℕ, ◌+◌, ◌<◌, inl, inr, List, [], ◌∷◌, take, Some, None, Ok, refl, sym, ap, subst, ◌∙◌, arith, slice_get}
+use Rattle.std.specs.Prelude.{IsOk}
 use Rattle.vb_tree.specs.declared.tree.TreeEntry.{TreeEntry}
-use Rattle.vb_tree.specs.declared.tree.Kind.TheVariants.{File}
-use Rattle.vb_pages.specs.declared.kept.KeptPage.{KeptPage}
-use Rattle.vb_pages.specs.declared.kept.PageKey.{PageKey}
-use Rattle.vb_frozen.specs.declared.entry.FrozenEntry.{FrozenEntry}
-use Rattle.vb_frozen.specs.Views.{HasFrozenTree}
 use Rattle.vb_msg.specs.declared.message.Msg.{Msg}
-use Rattle.vb_msg.specs.declared.message.Msg.TheVariants.{Begin, Seal}
+use Rattle.vb_msg.specs.declared.message.Msg.TheVariants.{Begin}
 use Rattle.vb_cloud.specs.Machine.{CloudState, cloud_step}
-use Rattle.vb_upload.specs.declared.cursor.Cursor.{Cursor}
-use Rattle.vb_upload.specs.declared.cursor.Cursor.TheVariants as at
-use Rattle.vb_upload.specs.Clouds.{and_next, cloud_through, drafting, showing, undrafted, HasTaken, MayUpload}
-use Rattle.vb_upload.specs.Cursors.{counts_of, sent_at, StandsIn}
-use Rattle.vb_upload.specs.Messages.{epoch_named}
-use Rattle.vb_upload.specs.Plans.{messages_for, counts_of_tree, total_of, plan_length, upload_plan}
-use Rattle.vb_upload.proofs.Behind.{count-by, some-entry, total-within}
-use Rattle.vb_upload.proofs.Lengths.{length-plan}
-use Rattle.vb_upload.proofs.Positions.{counts-same}
-use Rattle.vb_upload.proofs.Shown.{front-shows, last-taken, ok_same}
-use Rattle.vb_upload.proofs.Taken.{begun, next-taken, went}
-
--- ---- one message more
+use Rattle.vb_publish.specs.Clouds.{and_next, cloud_through, drafting, showing, undrafted, HasTaken, MayUpload}
+use Rattle.vb_publish.specs.Messages.{epoch_named}
+use Rattle.vb_publish.specs.Plans.{counts_of_tree, plan_length, upload_plan}
+use Rattle.vb_publish.proofs.Shown.{front-shows, last-taken, ok_same}
+use Rattle.vb_publish.proofs.Taken.{begun, next-taken, went}
 
 may-undrafted : (k : CloudState) (epoch : ℕ) (tree : List TreeEntry) → MayUpload k epoch tree → MayUpload (undrafted k) epoch tree
 may-undrafted k epoch tree may = record { later = may.later; small = may.small; is_tree = may.is_tree; few = may.few }
@@ -69,30 +54,3 @@ pub shows-last : (k after : CloudState) (epoch n : ℕ) (tree : List TreeEntry) 
 shows-last k after epoch n tree m may (inl none) there is last = absurd (omega arith)
 shows-last k after epoch n tree m may (inr taken) there is last =
     ok_same after (showing k epoch tree) (sym is ∙ last-taken (undrafted k) k epoch n tree k.tree m (may-undrafted k epoch tree may) taken there last)
-
--- ---- there is a message
-
-total-front : (counts : List ℕ) (i : ℕ) → total_of (take i counts) ≤ total_of counts
-total-front counts zero = omega arith
-total-front [] (suc i) = omega arith
-total-front (c ∷ cs) (suc i) = (let rest = total-front cs i in omega arith)
-
-pub sent-within : (order : List FrozenEntry) (cursor : Cursor) → StandsIn order cursor → sent_at (counts_of order) cursor < plan_length (counts_of order)
-sent-within order at.Begin stands = omega arith
-sent-within order (at.Entry i) stands = (let front = total-front (counts_of order) i in omega arith)
-sent-within order (at.Page i page) stands =
-    let e = some-entry order i stands.there in
-    let enough = stands.enough e.0 e.1 in
-    let within = total-within (counts_of order) i (messages_for File e.0.len) (count-by order i e.0 File e.1 (stands.file e.0 e.1)) in
-    omega arith
-sent-within order (at.Sealed i) stands = (let front = total-front (counts_of order) (i + 1) in omega arith)
-
-pub message-there : (epoch place : ℕ) (tree published : List TreeEntry) → place < plan_length (counts_of_tree tree) → IsSome (slice_get (upload_plan epoch tree published) place)
-message-there epoch place tree published less =
-    let len = length-plan epoch tree published in
-    ap is_some (slice_get-get_or (upload_plan epoch tree published) place Seal (omega arith))
-
-pub counts-frozen : (order : List FrozenEntry) (pages : List (PageKey × KeptPage)) (d : DiskState) (tree : List TreeEntry) → HasFrozenTree order pages d tree → counts_of order ≡ counts_of_tree tree
-counts-frozen order pages d tree has = counts-same pages d order tree has.entries
-
-pub ruleset standing = (sent-within, message-there, counts-frozen)

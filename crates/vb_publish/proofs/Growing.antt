@@ -11,12 +11,12 @@ use Rattle.vb_tree.specs.Trees.{data_pages_of}
 use Rattle.vb_msg.specs.declared.message.Msg.{Msg}
 use Rattle.vb_msg.specs.declared.message.Msg.TheVariants.{Begin, Object, Seal, Publish}
 use Rattle.vb_cloud.specs.Machine.{CloudState}
-use Rattle.vb_upload.specs.Clouds.{cloud_through, drafting, growing, sealed, MayUpload}
-use Rattle.vb_upload.specs.Messages.{enter_named, epoch_named, path_named}
-use Rattle.vb_upload.specs.Plans.{part_at, parts_of, entry_messages, counts_of_tree, total_of, upload_plan}
-use Rattle.vb_upload.specs.Worked.{entry_with}
-use Rattle.vb_upload.proofs.Lengths.{length-entries, length-parts}
-use Rattle.vb_upload.proofs.Taken.{belongs-here, content-taken, front-taken, parts-taken, through-both, went}
+use Rattle.vb_publish.specs.Clouds.{cloud_through, drafting, growing, sealed, MayUpload}
+use Rattle.vb_publish.specs.Messages.{enter_named, epoch_named, path_named}
+use Rattle.vb_publish.specs.Plans.{part_at, parts_of, entry_messages, counts_of_tree, total_of, upload_plan}
+use Rattle.vb_publish.specs.Worked.{entry_with}
+use Rattle.vb_publish.proofs.Lengths.{length-entries, length-parts}
+use Rattle.vb_publish.proofs.Taken.{belongs-here, content-taken, front-taken, parts-taken, through-both, went}
 
 -- a plan, split at a file
 plan-split : (epoch : ℕ) (published front : List TreeEntry) (path : List (List ℕ)) (bytes : List ℕ) (back : List TreeEntry) → upload_plan epoch (front ++ entry_with path File bytes ∷ back) published ≡ (Begin (epoch_named epoch) ∷ flat_map (entry_messages published) front) ++ (Object ∷ (parts_of bytes ++ (Seal ∷ enter_named (path_named path) File ∷ (flat_map (entry_messages published) back ++ (Publish (epoch_named epoch) ∷ [])))))

@@ -8,7 +8,7 @@ use Rattle.vb_tree.specs.Contents.{part_of}
 use Rattle.vb_tree.specs.Trees.{data_pages_of}
 use Rattle.vb_msg.specs.declared.message.Msg.{Msg}
 use Rattle.vb_msg.specs.declared.message.Msg.TheVariants.{Begin, Object, Part, Seal, Publish}
-use Rattle.vb_upload.specs.Messages.{enter_named, epoch_named, keep_named, part_named, path_named}
+use Rattle.vb_publish.specs.Messages.{enter_named, epoch_named, keep_named, part_named, path_named}
 
 -- the part of some bytes that is their page of this number: the last one ends where they do
 abbrev pub part_at : List ℕ → ℕ → Msg

@@ -5,9 +5,9 @@ use Rattle.vb_tree.specs.declared.tree.Kind.TheVariants.{Folder, File}
 use Rattle.vb_tree.specs.declared.tree.TreeEntry.{TreeEntry}
 use Rattle.vb_tree.specs.Trees.{data_pages_of}
 use Rattle.vb_msg.specs.declared.message.Msg.TheVariants.{Begin, Object, Seal, Publish}
-use Rattle.vb_upload.specs.Messages.{enter_named, epoch_named, path_named}
-use Rattle.vb_upload.specs.Plans.{part_at, upload_plan}
-use Rattle.vb_upload.specs.Worked.{empty_plan, entry_with, file_plan, folder_plan}
+use Rattle.vb_publish.specs.Messages.{enter_named, epoch_named, path_named}
+use Rattle.vb_publish.specs.Plans.{part_at, upload_plan}
+use Rattle.vb_publish.specs.Worked.{empty_plan, entry_with, file_plan, folder_plan}
 
 pub empty-row : (epoch : ℕ) (published : List TreeEntry) → upload_plan epoch [] published ≡ empty_plan epoch
 empty-row epoch published = refl

@@ -5,7 +5,7 @@ use Rattle.vb_tree.specs.Trees.{IsTree}
 use Rattle.vb_msg.specs.declared.message.Msg.{Msg}
 use Rattle.vb_cloud.specs.declared.refusal.CloudRefusal.{CloudRefusal}
 use Rattle.vb_cloud.specs.Machine.{Absent, CloudState, Growing, Sealed, cloud_step}
-use Rattle.vb_upload.specs.Plans.{upload_plan}
+use Rattle.vb_publish.specs.Plans.{upload_plan}
 
 -- what comes next for the state that a step leaves; refused where the step is
 abbrev pub and_next : Result CloudState CloudRefusal → (CloudState → Result CloudState CloudRefusal) → Result CloudState CloudRefusal

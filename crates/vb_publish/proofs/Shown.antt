@@ -13,11 +13,11 @@ use Rattle.vb_msg.specs.declared.ranges.EntryPath.{EntryPath}
 use Rattle.vb_cloud.specs.declared.refusal.CloudRefusal.{CloudRefusal}
 use Rattle.vb_cloud.specs.declared.refusal.CloudRefusal.TheVariants.{NotLater}
 use Rattle.vb_cloud.specs.Machine.{CloudState, DraftState, add_part, cloud_step, enter, keep, of_draft, refuse_if, seal_object, start_object, with_draft}
-use Rattle.vb_upload.specs.Clouds.{and_next, cloud_through, drafting, showing, MayUpload}
-use Rattle.vb_upload.specs.Messages.{enter_named, epoch_named, path_named}
-use Rattle.vb_upload.specs.Plans.{part_at, parts_of, messages_by, entry_messages, counts_of_tree, plan_length, upload_plan}
-use Rattle.vb_upload.proofs.Lengths.{length-entries, length-plan}
-use Rattle.vb_upload.proofs.Taken.{begun, next-taken, plan-taken, went}
+use Rattle.vb_publish.specs.Clouds.{and_next, cloud_through, drafting, showing, MayUpload}
+use Rattle.vb_publish.specs.Messages.{enter_named, epoch_named, path_named}
+use Rattle.vb_publish.specs.Plans.{part_at, parts_of, messages_by, entry_messages, counts_of_tree, plan_length, upload_plan}
+use Rattle.vb_publish.proofs.Lengths.{length-entries, length-plan}
+use Rattle.vb_publish.proofs.Taken.{begun, next-taken, plan-taken, went}
 
 pub ok_same : (a b : CloudState) → went a ≡ went b → a ≡ b
 ok_same a b h = ap (λ r. ok_or a r) h where

@@ -17,18 +17,19 @@ use Rattle.vb_tree.specs.declared.tree.Kind.TheVariants.{Folder, File}
 use Rattle.vb_tree.specs.declared.tree.TreeEntry.{TreeEntry}
 use Rattle.vb_tree.specs.Trees.{entry_at, kind_at, is_root, is_folder, parent_of, insert_entry, data_pages_of, AllAfter, AreInOrder, AllBelongIn, BelongsIn, IsTree}
 use Rattle.vb_tree.specs.Contents.{part_of}
-use Rattle.vb_index.proofs.Named.{name_ties}
+use Rattle.std.specs.Cmp.Lexicographic.{nat_list_cmp_total}
+use Rattle.std.proofs.lemmas.Cmp.{tied_itself}
 use Rattle.vb_msg.specs.declared.message.Msg.{Msg}
 use Rattle.vb_msg.specs.declared.message.Msg.TheVariants.{Begin, Seal, Publish}
 use Rattle.vb_msg.specs.declared.ranges.EntryPath.{EntryPath}
 use Rattle.vb_cloud.specs.declared.refusal.CloudRefusal.{CloudRefusal}
 use Rattle.vb_cloud.specs.declared.refusal.CloudRefusal.TheVariants.{BadParent, Twice, TooMany, TooLarge, NotLater, NoDraft}
 use Rattle.vb_cloud.specs.Machine.{Absent, CloudState, DraftState, Growing, ObjectState, Sealed, add_entry, begin, cloud_step, publish, refuse_if, refuse_place, with_draft}
-use Rattle.vb_upload.specs.Clouds.{and_next, cloud_through, drafting, showing, MayUpload}
-use Rattle.vb_upload.specs.Messages.{enter_named, epoch_named, path_named}
-use Rattle.vb_upload.specs.Plans.{part_at, parts_of, messages_by, entry_messages, messages_for, counts_of_tree, total_of, upload_plan}
-use Rattle.vb_upload.proofs.Lengths.{length-entries}
-use Rattle.vb_upload.proofs.Names.{epoch-here, part-here, path-here}
+use Rattle.vb_publish.specs.Clouds.{and_next, cloud_through, drafting, showing, MayUpload}
+use Rattle.vb_publish.specs.Messages.{enter_named, epoch_named, path_named}
+use Rattle.vb_publish.specs.Plans.{part_at, parts_of, messages_by, entry_messages, messages_for, counts_of_tree, total_of, upload_plan}
+use Rattle.vb_publish.proofs.Lengths.{length-entries}
+use Rattle.vb_publish.proofs.Names.{epoch-here, part-here, path-here}
 
 -- ---- runs
 
@@ -110,7 +111,7 @@ belongs-here tree (x ∷ xs) e back all = belongs-here tree xs e back all.1
 
 folder-first : (p : List (List ℕ)) (x : List ℕ) → path_cmp (take (length p) (x ∷ p)) (x ∷ p) ≡ Less
 folder-first [] x = refl
-folder-first (y ∷ ys) x = ap (λ o. ordering_then o (path_cmp (take (length ys) (y ∷ ys)) (y ∷ ys))) (name_ties x) ∙ folder-first ys y
+folder-first (y ∷ ys) x = ap (λ o. ordering_then o (path_cmp (take (length ys) (y ∷ ys)) (y ∷ ys))) (tied_itself nat_list_cmp_total x) ∙ folder-first ys y
 
 -- a folder comes before what is in it
 parent-before : (p : List (List ℕ)) → is_root p ≡ false → path_cmp (parent_of p) p ≡ Less

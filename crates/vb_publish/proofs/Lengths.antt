@@ -1,5 +1,7 @@
 -- How long plans are.
-use Rattle.std.proofs.Common.{◌≡◌, ℕ, List, [], ◌∷◌, length, refl, ◌∙◌, arith, length-append}
+use Rattle.std.proofs.Common.{◌≡◌, ℕ, ◌<◌, List, [], ◌∷◌, length, is_some, slice_get, refl, ap, ◌∙◌, arith, length-append}
+use Rattle.std.specs.Prelude.{IsSome}
+use Rattle.std.proofs.lemmas.Option.{slice_get-get_or}
 use Rattle.std.specs.List.{flat_map}
 use Rattle.std.proofs.lemmas.List.FromFn.{length-map-range_with_len}
 use Rattle.vb_tree.specs.declared.tree.Kind.{Kind}
@@ -7,8 +9,8 @@ use Rattle.vb_tree.specs.declared.tree.Kind.TheVariants.{Folder, File}
 use Rattle.vb_tree.specs.declared.tree.TreeEntry.{TreeEntry}
 use Rattle.vb_tree.specs.Trees.{data_pages_of}
 use Rattle.vb_msg.specs.declared.message.Msg.TheVariants.{Seal, Publish}
-use Rattle.vb_upload.specs.Messages.{enter_named, epoch_named, path_named}
-use Rattle.vb_upload.specs.Plans.{part_at, parts_of, messages_by, entry_messages, messages_for, counts_of_tree, total_of, plan_length, upload_plan}
+use Rattle.vb_publish.specs.Messages.{enter_named, epoch_named, path_named}
+use Rattle.vb_publish.specs.Plans.{part_at, parts_of, messages_by, entry_messages, messages_for, counts_of_tree, total_of, plan_length, upload_plan}
 
 pub length-parts : (bytes : List ℕ) → length (parts_of bytes) ≡ data_pages_of (length bytes)
 length-parts bytes = length-map-range_with_len (part_at bytes) 0 (data_pages_of (length bytes))
@@ -33,4 +35,10 @@ length-plan epoch tree published =
     let both = length-append (flat_map (entry_messages published) tree) (Publish (epoch_named epoch) ∷ []) in
     omega arith
 
-pub ruleset lengths = (length-plan)
+-- below its length a plan has a message at each place
+pub message-there : (epoch place : ℕ) (tree published : List TreeEntry) → place < plan_length (counts_of_tree tree) → IsSome (slice_get (upload_plan epoch tree published) place)
+message-there epoch place tree published less =
+    let len = length-plan epoch tree published in
+    ap is_some (slice_get-get_or (upload_plan epoch tree published) place Seal (omega arith))
+
+pub ruleset lengths = (length-plan, message-there)

@@ -1,5 +1,5 @@
-use Rattle.vb_upload.proofs.GoesOn.{goes-on, shows-last, takes-next}
-use Rattle.vb_upload.proofs.going_on.clouds_take_plans_message_by_message.Goals as goal
+use Rattle.vb_publish.proofs.GoesOn.{goes-on, shows-last, takes-next}
+use Rattle.vb_publish.proofs.laws.clouds_take_plans_message_by_message.Goals as goal
 
 pub returns-clause-taken : goal.returns-clause-taken
 returns-clause-taken c = takes-next

@@ -12,7 +12,7 @@ use Rattle.vb_msg.specs.declared.ranges.Epoch.{Epoch}
 use Rattle.vb_msg.specs.declared.ranges.EntryPath.{EntryPath}
 use Rattle.vb_msg.specs.declared.ranges.PartBytes.{PartBytes}
 use Rattle.vb_msg.proofs.MessagesSame.{entries_same, messages_same}
-use Rattle.vb_upload.specs.Messages.{enter_named, epoch_if, epoch_named, part_if, part_named, path_if, path_named, reads_as, reads_as-true}
+use Rattle.vb_publish.specs.Messages.{enter_named, epoch_if, epoch_named, part_if, part_named, path_if, path_named, reads_as, reads_as-true}
 
 epoch-if : (n : ℕ) (t : Bool) (h : nat_lt n (2 ^ 63) ≡ t) → t ≡ true → (epoch_if n t h).number ≡ n
 epoch-if n true h is = refl

@@ -1,0 +1,4 @@
+pub mod Clouds
+pub mod Messages
+pub mod Plans
+pub mod Worked

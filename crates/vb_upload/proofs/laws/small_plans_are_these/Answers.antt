@@ -1,5 +1,0 @@
-use Rattle.vb_upload.proofs.Rows.{file-row}
-use Rattle.vb_upload.proofs.laws.small_plans_are_these.Goals as goal
-
-pub returns-clause-file : goal.returns-clause-file
-returns-clause-file c = file-row
