@@ -1,0 +1,9 @@
+pub mod Counts
+pub mod Due
+pub mod Later
+pub mod Noted
+pub mod Rests
+pub mod Runs
+pub mod Shown
+pub mod Transitions
+pub mod Trees
