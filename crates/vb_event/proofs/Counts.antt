@@ -1,5 +1,5 @@
 -- A folder that is sound for an opening is sound for the same one with lower counts of faults.
-use Rattle.std.proofs.Common.{◌≡◌, ℕ, ◌≤◌, ◌⊎◌, inl, inr, List, [], ◌∷◌, Some, arith}
+use Rattle.std.proofs.Common.{ℕ, ◌≤◌, List, [], ◌∷◌, arith}
 use Rattle.vb_hist.specs.declared.entry.Entry.{Entry}
 use Rattle.vb_hist.specs.Histories.{survivors_after}
 use Rattle.vb_hist.specs.Legal.{AreLegalAfter, Opening}

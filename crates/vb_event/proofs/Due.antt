@@ -1,24 +1,21 @@
 -- The message that is due, and what the cloud makes of it.
-use Rattle.std.proofs.Common.{◌≡◌, ℕ, ◌+◌, ◌<◌, ◌≤◌, ◌⊎◌, inl, inr, Bool, true, false, if◌then◌else◌, IfSome, List, length, Option, Some, None, Ok, refl, ap, sym, ◌∙◌, subst, subst₂, arith, slice_get}
+use Rattle.std.proofs.Common.{◌≡◌, ◌+◌, ◌<◌, ◌≤◌, ◌⊎◌, inl, inr, Bool, true, false, List, Some, Ok, refl, ap, sym, ◌∙◌, subst, arith}
 use Rattle.std.specs.Prelude.{nat_le, IsOk}
 use Rattle.std.proofs.lemmas.Option.{slice_get_within}
 use Rattle.std.proofs.lemmas.Bool.Decides.{nat_tests}
 use Rattle.vb_tree.specs.declared.tree.TreeEntry.{TreeEntry}
-use Rattle.vb_hist.specs.declared.entry.Stage.{Stage}
-use Rattle.vb_hist.specs.declared.entry.Stage.TheVariants.{Rested, Written, Committed}
 use Rattle.vb_hist.specs.Legal.{Opening}
 use Rattle.vb_msg.specs.declared.message.Msg.{Msg}
 use Rattle.vb_cloud.specs.Machine.{CloudState, cloud_step}
-use Rattle.vb_publish.specs.Clouds.{HasTaken, MayUpload, showing}
-use Rattle.vb_publish.specs.Plans.{counts_of_tree, plan_length, upload_plan}
-use Rattle.vb_publish.specs.declared.step.UploadStep.TheVariants as uploads
+use Rattle.vb_publish.specs.Clouds.{HasTaken}
+use Rattle.vb_publish.specs.Plans.{upload_plan}
 use Rattle.vb_publish.proofs.GoesOn.{goes-on, shows-last, takes-next}
 use Rattle.vb_publish.proofs.Lengths.{length-plan}
 use Rattle.vb_event.specs.declared.event.FolderEvent.TheVariants as events
 use Rattle.vb_event.specs.declared.answer.FolderAnswer.TheVariants as answers
 use Rattle.vb_event.specs.declared.answer.FaultKind.TheVariants.{Link}
 use Rattle.vb_event.specs.Core.{Core, Given}
-use Rattle.vb_event.specs.Answers.{due_view, is_last_due, message_answer}
+use Rattle.vb_event.specs.Answers.{is_last_due, message_answer}
 use Rattle.vb_event.specs.Steps.{IsDoubting, IsPublishing, MayBecome, ShowsAs, ShowsView, doubt_of, last_view, tree_in}
 use Rattle.vb_event.specs.Sound.{HasSoundHistory, HasSoundCloud, IsDueMessage}
 

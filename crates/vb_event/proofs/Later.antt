@@ -1,11 +1,10 @@
 -- What is published never falls, in the folder and in its cloud.
-use Rattle.std.proofs.Common.{◌≡◌, ◌≢◌, ℕ, ◌<◌, ◌≤◌, ◌⊎◌, inl, inr, Bool, true, false, if◌then◌else◌, IfSome, Option, Some, None, refl, ap, sym, ◌∙◌, subst, arith}
+use Rattle.std.proofs.Common.{◌≡◌, ◌≢◌, ℕ, ◌<◌, ◌≤◌, ◌⊎◌, inl, inr, Bool, true, false, IfSome, Option, Some, None, refl, ap, sym, ◌∙◌, subst, arith}
 use Rattle.vb_tree.specs.declared.operation.Op.{Op}
 use Rattle.vb_hist.specs.declared.entry.Stage.{Stage}
 use Rattle.vb_hist.specs.declared.entry.Stage.TheVariants.{Rested, Written, Committed}
 use Rattle.vb_hist.specs.Legal.{Opening}
 use Rattle.vb_cloud.specs.Machine.{CloudState}
-use Rattle.vb_publish.specs.declared.step.UploadStep.{UploadStep}
 use Rattle.vb_publish.specs.declared.step.UploadStep.TheVariants as uploads
 use Rattle.vb_event.specs.declared.event.FolderEvent.{FolderEvent}
 use Rattle.vb_event.specs.declared.event.FolderEvent.TheVariants as events

@@ -2,6 +2,8 @@ pub mod Counts
 pub mod Due
 pub mod Later
 pub mod Noted
+pub mod Opened
+pub mod Pace
 pub mod Rests
 pub mod Runs
 pub mod Shown

@@ -1,6 +1,5 @@
 -- A sound folder whose history has one more entry.
-use Rattle.std.proofs.Common.{◌≡◌, ℕ, ◌<◌, ◌≤◌, ◌⊎◌, inl, inr, Bool, true, false, not, ◌||◌, ◌==◌, is_some, if◌then◌else◌, IfSome, List, [], ◌∷◌, ◌++◌, Option, Some, None, refl, ap, sym, ◌∙◌, subst, append-nil, arith}
-use Rattle.vb_tree.specs.declared.tree.TreeEntry.{TreeEntry}
+use Rattle.std.proofs.Common.{◌≡◌, ℕ, ◌<◌, ◌≤◌, false, if◌then◌else◌, IfSome, List, [], ◌∷◌, ◌++◌, Option, Some, None, ap, sym, ◌∙◌, subst, append-nil, arith}
 use Rattle.vb_hist.specs.declared.entry.Entry.{Entry}
 use Rattle.vb_hist.specs.declared.entry.Stage.TheVariants.{Written}
 use Rattle.vb_hist.specs.Histories.{folder_after, HasNoCut, IsFrozenAt, is_cut, surviving, tree_after_entry, up_to_epoch}
@@ -8,7 +7,7 @@ use Rattle.vb_hist.specs.Legal.{Opening, IsLegal, MayFollow, marks_after, marks_
 use Rattle.vb_hist.proofs.Survivors.{surviving-whole}
 use Rattle.vb_hist.proofs.Growth.{legal-push, no_cut-goes_back}
 use Rattle.vb_hist.proofs.Fronts.{up_to_epoch-append}
-use Rattle.vb_hist.proofs.Pushed.{all-push, marks_of-push, folder_of-push, folder_at-push, IsFrozenAt-append}
+use Rattle.vb_hist.proofs.Pushed.{all-push, marks_of-push, folder_of-push}
 use Rattle.vb_hist.proofs.Ordered.{ordered, IsOrdered}
 use Rattle.vb_hist.proofs.Marked.{IsPast}
 use Rattle.vb_hist.proofs.Newer.{IsNewer}

@@ -1,9 +1,8 @@
 -- Runs: a folder after a list of events, and the promise between its two ends.
-use Rattle.std.proofs.Common.{◌≡◌, ℕ, ◌<◌, ◌≤◌, ◌==◌, ◌⊎◌, inl, inr, Bool, true, false, if◌then◌else◌, List, [], ◌∷◌, ◌++◌, Option, Some, None, refl, ap, sym, ◌∙◌, subst, subst₂, append-nil, append_assoc, arith}
+use Rattle.std.proofs.Common.{◌≡◌, ℕ, ◌<◌, ◌≤◌, ◌==◌, inl, inr, true, false, if◌then◌else◌, List, [], ◌∷◌, Option, Some, None, refl, ap, sym, ◌∙◌, subst, subst₂, append-nil, arith}
 use Rattle.std.proofs.lemmas.Bool.Decides.{nat_tests}
 use mathlib.Core.List.{IsPrefix}
-use Rattle.vb_hist.specs.declared.entry.Entry.{Entry}
-use Rattle.vb_hist.specs.Histories.{IsFrozenAt, surviving, up_to_epoch}
+use Rattle.vb_hist.specs.Histories.{IsFrozenAt, up_to_epoch}
 use Rattle.vb_hist.specs.Legal.{Opening, folder_at}
 use Rattle.vb_hist.specs.Openings.{published_front}
 use Rattle.vb_hist.proofs.Earlier.{fronts-extend}

@@ -1,20 +1,15 @@
 -- Each event keeps the cloud of a folder sound, and what is published only goes on.
-use Rattle.std.proofs.Common.{◌≡◌, ◌≢◌, ℕ, ◌+◌, ◌<◌, ◌≤◌, ◌⊎◌, inl, inr, Bool, true, false, not, ◌||◌, ◌==◌, is_some, if◌then◌else◌, IfSome, List, [], ◌∷◌, ◌++◌, Option, Some, None, refl, ap, sym, ◌∙◌, subst, subst₂, append-nil, append_assoc, arith}
+use Rattle.std.proofs.Common.{◌≡◌, ◌≢◌, ℕ, ◌+◌, ◌<◌, ◌≤◌, ◌⊎◌, inl, inr, Bool, true, false, not, ◌||◌, ◌==◌, is_some, if◌then◌else◌, IfSome, List, [], ◌++◌, Option, Some, None, refl, ap, sym, ◌∙◌, subst, arith}
 use Rattle.std.proofs.lemmas.Bool.Decides.{eqb_tells, nat_tests}
-use mathlib.Core.List.{IsPrefix}
 use Rattle.vb_tree.specs.declared.tree.TreeEntry.{TreeEntry}
 use Rattle.vb_tree.specs.Operations.{reply_of}
 use Rattle.vb_hist.specs.declared.entry.Entry.{Entry}
 use Rattle.vb_hist.specs.declared.entry.Stage.{Stage}
 use Rattle.vb_hist.specs.declared.entry.Stage.TheVariants.{Rested, Written, Committed}
-use Rattle.vb_hist.specs.Histories.{HasNoCut, IsFrozenAt, surviving, up_to_epoch}
-use Rattle.vb_hist.specs.Legal.{Opening, folder_at, marks_of, standing_without}
-use Rattle.vb_hist.specs.Openings.{published_front}
-use Rattle.vb_hist.proofs.Earlier.{fronts-extend}
+use Rattle.vb_hist.specs.Histories.{HasNoCut, IsFrozenAt}
+use Rattle.vb_hist.specs.Legal.{Opening, folder_at, marks_of}
 use Rattle.vb_hist.proofs.Extended.{extends-later}
 use Rattle.vb_hist.proofs.Marked.{IsPast}
-use Rattle.vb_hist.proofs.Fronts.{up_to_epoch-append}
-use Rattle.vb_hist.proofs.Pushed.{IsFrozenAt-append}
 use Rattle.vb_cloud.specs.Machine.{CloudState}
 use Rattle.vb_publish.specs.Clouds.{HasTaken}
 use Rattle.vb_publish.specs.declared.step.UploadStep.{UploadStep}
@@ -28,11 +23,10 @@ use Rattle.vb_event.specs.declared.answer.CommitStep.TheVariants as commits
 use Rattle.vb_event.specs.declared.answer.FaultKind.{FaultKind}
 use Rattle.vb_event.specs.declared.answer.FaultKind.TheVariants.{Damaged, Disk, Link, Memory}
 use Rattle.vb_event.specs.Core.{Core, Given, IsGiven, is_busy, is_rested}
-use Rattle.vb_event.specs.Answers.{MayAnswer, MayStep, IsDue, due_view, drop_answer, freeze_answer, is_last_due, is_spent, message_answer, commit_answer}
-use Rattle.vb_event.specs.Steps.{IsDoubting, IsPublishing, LeavesCloud, MayBecome, ShowsAs, ShowsView, after_upload_step, core_after, doubt_of, epoch_or, frozen_while, pushed_by, pushed_by_upload, tree_in}
-use Rattle.vb_event.specs.Sound.{HasSoundHistory, HasSoundCloud, IsPublishedFreeze, frozen_tree_at, published_tree_at}
-use Rattle.vb_event.specs.Promise.{GoesOnFrom}
-use Rattle.vb_event.proofs.Noted.{all-survives, doubt-frozen, folder_at-grows, frozen-at, last-frozen, line-ordered, with_history}
+use Rattle.vb_event.specs.Answers.{MayAnswer, MayStep, IsDue, due_view, drop_answer, is_last_due, is_spent, message_answer, commit_answer}
+use Rattle.vb_event.specs.Steps.{IsDoubting, IsPublishing, MayBecome, ShowsAs, ShowsView, after_upload_step, core_after, doubt_of, epoch_or, frozen_while, pushed_by_upload, tree_in}
+use Rattle.vb_event.specs.Sound.{HasSoundHistory, HasSoundCloud, IsPublishedFreeze, published_tree_at}
+use Rattle.vb_event.proofs.Noted.{doubt-frozen, folder_at-grows, frozen-at, last-frozen, line-ordered, with_history}
 use Rattle.vb_event.proofs.Transitions.{doubt-tells, or-none, sound-event}
 
 -- ---- published epochs

@@ -1,7 +1,7 @@
 -- Each event keeps the history of a folder sound, whatever answer of those that may come has come.
 use Rattle.std.proofs.Common.{◌≡◌, ◌≢◌, ℕ, ◌+◌, ◌<◌, ◌≤◌, ◌⊎◌, inl, inr, Bool, true, false, not, ◌||◌, ◌==◌, is_some, if◌then◌else◌, IfSome, List, [], ◌∷◌, ◌++◌, Option, Some, None, refl, ap, sym, ◌∙◌, subst, subst₂, arith}
-use Rattle.std.specs.Prelude.{IsSome, nat_le}
-use Rattle.std.specs.List.{Contains, list_any}
+use Rattle.std.specs.Prelude.{IsSome}
+use Rattle.std.specs.List.{list_any}
 use Rattle.std.proofs.lemmas.Bool.Decides.{eqb_tells}
 use Rattle.vb_tree.specs.declared.tree.TreeEntry.{TreeEntry}
 use Rattle.vb_tree.specs.declared.operation.Op.{Op}
@@ -12,9 +12,8 @@ use Rattle.vb_hist.specs.declared.entry.Stage.{Stage}
 use Rattle.vb_hist.specs.declared.entry.Stage.TheVariants.{Rested, Written, Committed}
 use Rattle.vb_hist.specs.declared.marks.Marks.{Marks}
 use Rattle.vb_hist.specs.Histories.{folder_after, is_freeze_of, up_to_epoch}
-use Rattle.vb_hist.specs.Legal.{Opening, MayFollow, folder_at, marks_after, marks_of, standing_without}
+use Rattle.vb_hist.specs.Legal.{Opening, folder_at, marks_of, standing_without}
 use Rattle.vb_hist.proofs.Order.{frozen-within}
-use Rattle.vb_hist.proofs.Order.{IsInOrder}
 use Rattle.vb_hist.proofs.Survivors.{surviving-whole}
 use Rattle.vb_hist.proofs.Fronts.{up_to_epoch-freeze}
 use Rattle.vb_publish.specs.declared.step.UploadStep.{UploadStep}
@@ -30,7 +29,7 @@ use Rattle.vb_event.specs.declared.answer.FaultKind.TheVariants.{Damaged, Disk, 
 use Rattle.vb_event.specs.Core.{Core, Given, BringToRest, IsGiven, is_busy, is_rested}
 use Rattle.vb_event.specs.Answers.{MayAnswer, MayStep, IsDue, commit_answer, drop_answer, due_view, freeze_answer, is_last_due, is_spent, message_answer}
 use Rattle.vb_event.specs.Steps.{core_after, after_upload_step, doubt_of, epoch_or, frozen_while, last_view, pushed_by_upload, rest_of}
-use Rattle.vb_event.specs.Sound.{HasSoundHistory, IsCoherent, IsSending, TellsMarks, frozen_tree_at}
+use Rattle.vb_event.specs.Sound.{HasSoundHistory, IsCoherent, TellsMarks}
 use Rattle.vb_event.proofs.Noted.{all-survives, from-start, line-ordered, longer, noted, quiet-sound, still-same, still-sound, with_history}
 
 -- ---- what stays coherent
@@ -128,9 +127,6 @@ idle None Committed h = cc
 none-frozen : (o : Opening) (core : Core) → HasSoundHistory o core → list_any (is_freeze_of (core.epoch + 1)) core.history ≡ false
 none-frozen o core s = at (list_any (is_freeze_of (core.epoch + 1)) core.history) refl
   where
-    line : List Entry
-    line = core.history
-
     at : (b : Bool) → list_any (is_freeze_of (core.epoch + 1)) core.history ≡ b → list_any (is_freeze_of (core.epoch + 1)) core.history ≡ false
     at false is = is
     at true is =

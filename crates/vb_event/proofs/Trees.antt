@@ -1,13 +1,12 @@
 -- The trees of the views that a disk may recover.
-use Rattle.std.proofs.Common.{◌≡◌, ◌≢◌, ℕ, ◌+◌, ◌<◌, ◌≤◌, ◌⊎◌, inl, inr, Bool, true, false, if◌then◌else◌, List, [], ◌∷◌, ◌++◌, Option, Some, None, refl, ap, sym, ◌∙◌, subst, arith}
+use Rattle.std.proofs.Common.{◌≡◌, ℕ, ◌+◌, ◌⊎◌, inl, inr, Bool, true, false, if◌then◌else◌, List, [], ◌∷◌, ◌++◌, Option, Some, refl, ap, sym, ◌∙◌, subst, arith}
 use Rattle.vb_tree.specs.declared.tree.Limits.{Limits}
 use Rattle.vb_tree.specs.declared.tree.TreeEntry.{TreeEntry}
 use Rattle.vb_tree.specs.declared.operation.Op.{Op}
-use Rattle.vb_hist.specs.declared.entry.Entry.{Entry}
 use Rattle.vb_hist.specs.declared.entry.Entry.TheVariants.{Cut}
-use Rattle.vb_hist.specs.declared.entry.Stage.TheVariants.{Rested, Written, Committed}
+use Rattle.vb_hist.specs.declared.entry.Stage.TheVariants.{Written}
 use Rattle.vb_hist.specs.declared.marks.Marks.{Marks}
-use Rattle.vb_hist.specs.Histories.{IsFrozenAt, surviving}
+use Rattle.vb_hist.specs.Histories.{IsFrozenAt}
 use Rattle.vb_hist.specs.Legal.{Opening, IsLegal, folder_at, folder_of, marks_of}
 use Rattle.vb_hist.proofs.Growth.{legal-push}
 use Rattle.vb_hist.proofs.Followed.{folder-cut}
@@ -19,10 +18,10 @@ use Rattle.vb_event.specs.declared.answer.FolderAnswer.TheVariants as answers
 use Rattle.vb_event.specs.declared.answer.CommitStep.TheVariants as commits
 use Rattle.vb_event.specs.declared.answer.FaultKind.TheVariants.{Link}
 use Rattle.vb_event.specs.Core.{Core, Given, IsGiven, is_busy}
-use Rattle.vb_event.specs.Answers.{MayAnswer, freeze_answer, is_spent}
-use Rattle.vb_event.specs.Steps.{after_call, after_commit_step, after_drop, after_freeze, after_upload_step, core_after, doubt_of, pushed_by}
+use Rattle.vb_event.specs.Answers.{MayAnswer, is_spent}
+use Rattle.vb_event.specs.Steps.{after_call, after_commit_step, after_drop, after_upload_step, core_after, doubt_of, pushed_by}
 use Rattle.vb_event.specs.Sound.{HasSoundHistory, MayRecover, Recovers}
-use Rattle.vb_event.proofs.Noted.{all-survives, folder_at-grows, frozen-at, from-start, last-frozen}
+use Rattle.vb_event.proofs.Noted.{all-survives, folder_at-grows, frozen-at, last-frozen}
 use Rattle.vb_event.proofs.Transitions.{sound-event}
 
 -- what may be recovered is frozen
@@ -78,7 +77,7 @@ frozen-next core true spent epoch h = cc
 frozen-next core false true epoch h = cc
 frozen-next core false false epoch h = cc (h)
 
-freeze-next : (given : Given) (core : Core) (by epoch : ℕ) → MayAnswer given core (events.Freeze by) (answers.Frozen epoch) → epoch ≡ core.epoch + 1
+pub freeze-next : (given : Given) (core : Core) (by epoch : ℕ) → MayAnswer given core (events.Freeze by) (answers.Frozen epoch) → epoch ≡ core.epoch + 1
 freeze-next given core by epoch (inl due) = frozen-next core (is_busy core) (is_spent core) epoch due
 freeze-next given core by epoch (inr fault) = absurd (differ fault.1)
   where

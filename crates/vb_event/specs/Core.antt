@@ -1,5 +1,5 @@
 -- The folder as contracts see it.
-use Rattle.std.specs.Prelude.{◌≡◌, ℕ, ◌≤◌, Bool, true, false, not, ◌||◌, is_some, List, [], ◌∷◌, Option, Some, None}
+use Rattle.std.specs.Prelude.{ℕ, ◌+◌, ◌*◌, ◌≤◌, Bool, true, false, not, ◌||◌, is_some, List, [], ◌∷◌, Option}
 use Rattle.vb_tree.specs.declared.tree.Limits.{Limits}
 use Rattle.vb_tree.specs.declared.tree.TreeEntry.{TreeEntry}
 use Rattle.vb_hist.specs.declared.entry.Entry.{Entry}
@@ -50,6 +50,10 @@ greatest_epoch = 9223372036854775807
 abbrev pub sequences_end : ℕ
 sequences_end = 9223372036854775808
 
+-- the epoch below which a folder that keeps pace is never spent, 2^62
+abbrev pub epochs_end : ℕ
+epochs_end = 4611686018427387904
+
 -- whether no commit is on
 abbrev pub is_rested : Stage → Bool
 is_rested Rested = true
@@ -59,6 +63,16 @@ is_rested Committed = false
 -- whether a view stands or a commit is on
 abbrev pub is_busy : Core → Bool
 is_busy core = is_some core.standing || not (is_rested core.stage)
+
+-- how many sequences the commit that is on still takes
+abbrev pub sequences_left : Stage → ℕ
+sequences_left Rested = 0
+sequences_left Written = 2
+sequences_left Committed = 2
+
+-- the folder took at most two sequences for each of its epochs, those of the commit that is on among them
+abbrev pub KeepsPace : Core → Type 0
+KeepsPace core = core.sequence + sequences_left core.stage ≤ 2 * core.epoch
 
 -- these answers bring a commit from a stage to its rest: it is committed once, and then rests once, with the last of them
 abbrev pub BringToRest : Stage → List CommitStep → Type 0

@@ -1,5 +1,5 @@
 -- The promise of a folder, over every list of events. It speaks of what survives of a history (`folder_of`, `folder_at`).
-use Rattle.std.specs.Prelude.{◌≡◌, ◌⊎◌, ℕ, ◌≤◌, true, List, Some}
+use Rattle.std.specs.Prelude.{◌≡◌, ◌⊎◌, ℕ, ◌≤◌, true, Some}
 use mathlib.Core.List.{IsPrefix}
 use Rattle.vb_hist.specs.Histories.{surviving}
 use Rattle.vb_hist.specs.Legal.{Opening, IsLegal, marks_of, folder_of, folder_at}

@@ -2,16 +2,17 @@
 use Rattle.std.specs.Prelude.{◌≡◌, ◌≢◌, ◌⊎◌, ℕ, ◌+◌, ◌<◌, ◌≤◌, ◌==◌, if◌then◌else◌, List, [], Option, Some, None, IfSome, slice_get}
 use Rattle.vb_tree.specs.declared.tree.TreeEntry.{TreeEntry}
 use Rattle.vb_hist.specs.declared.entry.Entry.{Entry}
-use Rattle.vb_hist.specs.declared.entry.Stage.TheVariants.{Written}
+use Rattle.vb_hist.specs.declared.entry.Stage.TheVariants.{Rested, Written}
 use Rattle.vb_hist.specs.declared.marks.Marks.{Marks}
 use Rattle.vb_hist.specs.Histories.{HasNoCut, IsFrozenAt}
-use Rattle.vb_hist.specs.Legal.{Opening, IsLegal, marks_of, folder_of, folder_at}
+use Rattle.vb_hist.specs.Legal.{Opening, IsLegal, marks_of, folder_of, folder_at, waiting_view}
 use Rattle.vb_cloud.specs.Machine.{CloudState}
 use Rattle.vb_msg.specs.declared.message.Msg.{Msg}
 use Rattle.vb_publish.specs.Clouds.{HasTaken, MayUpload}
 use Rattle.vb_publish.specs.Plans.{counts_of_tree, plan_length, upload_plan}
 use Rattle.vb_event.specs.Core.{Core, FolderView, Given, BringToRest, is_busy}
 use Rattle.vb_event.specs.Answers.{due_view}
+use Rattle.vb_event.specs.Steps.{frozen_while}
 
 -- what the folder tells are these marks; where it has a doubt that is theirs, and theirs may stand where it has none any more
 pub record TellsMarks (core : Core) (marks : Marks) : Type 0 where
@@ -87,6 +88,23 @@ pub record IsSound (o : Opening) (folder : FolderView) : Type 0 where
   pub cloud : (k : CloudState) → folder.cloud ≡ Some k → HasSoundCloud o folder.core k
   pub disk_faults : o.disk_faults ≤ folder.disk_faults
   pub link_faults : o.link_faults ≤ folder.link_faults
+
+-- a folder that was opened so, with this sequence: no commit is on, and the last view stands where it waits to be published
+abbrev pub opened : Opening → ℕ → Core
+opened o sequence = record {
+  limits = o.limits;
+  history = [];
+  epoch = o.start;
+  sequence = sequence;
+  published = o.published;
+  standing = waiting_view o.start o.published;
+  stage = Rested;
+  active = o.base;
+  frozen = frozen_while (waiting_view o.start o.published) Rested (Some o.base);
+  left = [];
+  unsure = None;
+  sent = 0;
+}
 
 -- an opening with other counts of faults
 abbrev pub with_counts : Opening → ℕ → ℕ → Opening

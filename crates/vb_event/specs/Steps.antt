@@ -1,5 +1,5 @@
 -- What an event makes of a folder, by its answer.
-use Rattle.std.specs.Prelude.{◌≡◌, ◌⊎◌, ℕ, ◌+◌, ◌-◌, ◌≤◌, max, Bool, true, false, not, ◌||◌, is_some, if◌then◌else◌, List, [], ◌∷◌, ◌++◌, length, Option, Some, None}
+use Rattle.std.specs.Prelude.{◌≡◌, ◌⊎◌, ℕ, ◌+◌, ◌-◌, ◌≤◌, max, Bool, not, ◌||◌, is_some, if◌then◌else◌, List, [], ◌∷◌, ◌++◌, length, Option, Some, None}
 use Rattle.vb_cause.specs.Faults.{HasRisen}
 use Rattle.vb_tree.specs.declared.tree.TreeEntry.{TreeEntry}
 use Rattle.vb_tree.specs.declared.operation.Op.{Op}
@@ -11,7 +11,6 @@ use Rattle.vb_hist.specs.declared.entry.Stage.TheVariants.{Rested, Written, Comm
 use Rattle.vb_hist.specs.Legal.{standing_without}
 use Rattle.vb_cloud.specs.Machine.{CloudState}
 use Rattle.vb_publish.specs.Clouds.{HasTaken}
-use Rattle.vb_publish.specs.declared.step.UploadStep.{UploadStep}
 use Rattle.vb_publish.specs.declared.step.UploadStep.TheVariants as uploads
 use Rattle.vb_event.specs.declared.event.FolderEvent.{FolderEvent}
 use Rattle.vb_event.specs.declared.event.FolderEvent.TheVariants as events

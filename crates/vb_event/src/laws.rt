@@ -1,5 +1,5 @@
 // Laws of events, each the contract of a function that does nothing.
-ghost use Rattle.std.specs.Prelude.{◌≡◌, ◌≢◌, ◌⊎◌, ◌≤◌, ◌++◌, ℕ, true, List, [], ◌∷◌, Ok, Some, IsOk};
+ghost use Rattle.std.specs.Prelude.{◌≡◌, ◌≢◌, ◌⊎◌, ◌<◌, ◌≤◌, ◌++◌, ℕ, false, List, [], ◌∷◌, Ok, Some, IsOk};
 ghost use Rattle.vb_tree.specs.declared.operation.Op.{Op};
 ghost use Rattle.vb_tree.specs.declared.tree.Limits.{Limits};
 ghost use Rattle.vb_tree.specs.declared.tree.TreeEntry.{TreeEntry};
@@ -9,11 +9,11 @@ ghost use Rattle.vb_hist.specs.declared.entry.Stage.{Stage};
 ghost use Rattle.vb_hist.specs.declared.entry.Stage.TheVariants.{Rested};
 ghost use Rattle.vb_msg.specs.declared.message.Msg.{Msg};
 ghost use Rattle.vb_cloud.specs.Machine.{CloudState, cloud_step};
-ghost use Rattle.vb_event.specs.Answers.{MayAnswer, commit_answer, is_last_due, message_answer};
-ghost use Rattle.vb_event.specs.Core.{Core, FolderView, Given, BringToRest, IsGiven, is_busy};
+ghost use Rattle.vb_event.specs.Answers.{MayAnswer, commit_answer, is_last_due, is_spent, message_answer};
+ghost use Rattle.vb_event.specs.Core.{Core, FolderView, Given, BringToRest, IsGiven, KeepsPace, epochs_end};
 ghost use Rattle.vb_event.specs.Promise.{KeepsPromise};
-ghost use Rattle.vb_event.specs.Sound.{HasSoundCloud, HasSoundHistory, IsDueMessage, IsSound, MayRecover, Recovers, with_counts};
-ghost use Rattle.vb_event.specs.Steps.{Happening, MayBecome, Runs, Steps, after_answers, core_after};
+ghost use Rattle.vb_event.specs.Sound.{HasSoundCloud, HasSoundHistory, IsDueMessage, IsSound, MayRecover, Recovers, opened, with_counts};
+ghost use Rattle.vb_event.specs.Steps.{Happening, MayBecome, Runs, after_answers, core_after};
 ghost use Rattle.vb_event.specs.declared.answer.CommitStep.{CommitStep};
 ghost use Rattle.vb_event.specs.declared.answer.CommitStep.TheVariants as commits;
 ghost use Rattle.vb_event.specs.declared.answer.FaultKind.TheVariants as faults;
@@ -21,6 +21,15 @@ ghost use Rattle.vb_event.specs.declared.answer.FolderAnswer.{FolderAnswer};
 ghost use Rattle.vb_event.specs.declared.answer.FolderAnswer.TheVariants as answers;
 ghost use Rattle.vb_event.specs.declared.event.FolderEvent.{FolderEvent};
 ghost use Rattle.vb_event.specs.declared.event.FolderEvent.TheVariants as events;
+
+/// A folder that was opened over a disk which isn't behind its cloud is sound, a cloud that shows what the opening says is
+/// sound for it, and what the disk may recover is the opening's tree. It does nothing.
+pub fn openings_are_sound()
+    ensures history { (o : Opening) (sequence : ℕ) → o.published ≤ o.start → HasSoundHistory o (opened o sequence) }
+    ensures cloud { (o : Opening) (sequence : ℕ) (k : CloudState) → k.epoch ≡ o.published → k.tree ≡ o.published_tree
+        → HasSoundCloud o (opened o sequence) k }
+    ensures tree { (o : Opening) (sequence : ℕ) → Recovers o (opened o sequence) o.start o.base }
+{}
 
 /// Whatever answer of those that may come has come, each event keeps the history sound. It does nothing.
 pub fn events_keep_histories_sound()
@@ -110,4 +119,12 @@ pub fn answers_lead_to_rest()
         → commit_answer (after_answers given core front).left ≡ step }
     ensures rests { (core : Core) (given : Given) → BringToRest core.stage core.left
         → ((after_answers given core core.left).stage ≡ Rested) × ((after_answers given core core.left).left ≡ []) }
+{}
+
+/// A folder that took at most two sequences for each of its epochs goes on so, and at an epoch below 2^62 it is not spent: so
+/// a freeze there is refused by a view that stands or a commit that is on alone. It does nothing.
+pub fn early_epochs_are_never_spent()
+    ensures pace { (core : Core) (given : Given) (event : FolderEvent) (answer : FolderAnswer) → MayAnswer given core event answer
+        → BringToRest core.stage core.left → KeepsPace core → KeepsPace (core_after given core event answer) }
+    ensures unspent { (core : Core) → KeepsPace core → core.epoch < epochs_end → is_spent core ≡ false }
 {}

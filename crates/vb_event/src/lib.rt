@@ -8,6 +8,7 @@ mod laws;
 pub use answer::{CommitStep, FaultKind, FolderAnswer};
 pub use event::FolderEvent;
 pub use laws::{
-    answers_lead_to_rest, counts_of_faults_may_be_lower, events_keep_histories_sound,
-    events_keep_trees, events_keep_what_is_shown, messages_show_what_is_due, runs_keep_the_promise,
+    answers_lead_to_rest, counts_of_faults_may_be_lower, early_epochs_are_never_spent,
+    events_keep_histories_sound, events_keep_trees, events_keep_what_is_shown,
+    messages_show_what_is_due, openings_are_sound, runs_keep_the_promise,
 };
