@@ -2,6 +2,7 @@ pub mod KeptPages
 pub mod ViewsKept
 pub mod NextHeld
 pub mod WholeCommits
+pub mod NextTables
 pub mod Following
 pub mod WholeSteps
 pub mod TornReads

@@ -12,9 +12,7 @@ ghost use Rattle.vb_during.specs.Histories.{both_views, EachCrashShows, Event, I
 ghost use Rattle.vb_during.specs.TornPages.{HasLoneMaps, IsAllWhole, IsUntorn, RecoversAnEnd};
 ghost use Rattle.vb_head.specs.declared.head.Head.{Head};
 ghost use Rattle.vb_index.specs.Contents.{HasTree};
-ghost use Rattle.vb_index.specs.Heights.{IsRooted};
 ghost use Rattle.vb_index.specs.Indexes.{IndexState};
-ghost use Rattle.vb_index.specs.Nodes.{IsTable};
 ghost use Rattle.vb_inode.specs.declared.next_view.NextNode.{NextNode};
 ghost use Rattle.vb_journal.specs.declared.commit_stage.CommitStep.{CommitStep};
 ghost use Rattle.vb_journal.specs.declared.commit_stage.Stage.TheVariants.{Rested};
@@ -31,14 +29,11 @@ ghost use Rattle.vb_views.specs.Commits.{IsPageOf};
 ghost use Rattle.vb_views.specs.AtRest.{IsAtRestFor, IsViewOf};
 ghost use Rattle.vb_views.specs.Reads.{pages_by, tree_view, GiveCandidates, RecoverOneOf};
 
-/// The next view of a commit that is started over a view follows the committed one, where the index that its plan makes
-/// is as each index is, the pages given have the digests of the plan, and the tree is that of the nodes over them. It
-/// does nothing.
+/// The next view of a commit that is started over a view follows the committed one, where the pages given have the
+/// digests of the plan, and the tree is that of the next nodes over them. It does nothing.
 pub fn a_commit_over_a_view_follows_it()
     ensures { (view : ViewState) (next : List NextNode) (epoch : ℕ) (tree : List TreeEntry) (source : ℕ → ℕ → List ℕ) (after : List TreeEntry)
-        → CanStart view next epoch → IsTable (slots_next (basis_of view.index view.space) next)
-        → IsRooted (slots_next (basis_of view.index view.space) next)
-        → All (λ p. IsPageOf p (bytes_in source p)) (plan_of (basis_of view.index view.space) next).pages
+        → CanStart view next epoch → All (λ p. IsPageOf p (bytes_in source p)) (plan_of (basis_of view.index view.space) next).pages
         → HasTree (slots_next (basis_of view.index view.space) next) source after → Follows (commit_over view next epoch tree source after) }
 {}
 
