@@ -14,7 +14,7 @@ use Rattle.vb_hist.proofs.Fronts.{up_to_epoch-freeze, IsFrozenAt-freeze}
 use Rattle.vb_hist.proofs.Pushed.{all-push}
 use Rattle.vb_core.specs.declared.event.FolderEvent.TheVariants as events
 use Rattle.vb_core.specs.declared.event.FolderAnswer.TheVariants as answers
-use Rattle.vb_core.specs.declared.event.UploadStep.TheVariants as uploads
+use Rattle.vb_publish.specs.declared.step.UploadStep.TheVariants as uploads
 use Rattle.vb_core.specs.Core.{Core, is_busy, is_spent, is_rested, freeze_answer, frozen_while, core_after, upload_answer}
 use Rattle.vb_core.specs.Sound.{HasSoundHistory, IsNoFreezeAbove, IsPublishedFreeze, TellsMarks, published_front}
 use Rattle.vb_core.proofs.Noted.{longer, front_of, front_stays, noted, same, still_same, shown_frozen}

@@ -16,7 +16,7 @@ use Rattle.vb_core.specs.declared.event.FolderEvent.{FolderEvent}
 use Rattle.vb_core.specs.declared.event.FolderEvent.TheVariants as events
 use Rattle.vb_core.specs.declared.event.FolderAnswer.{FolderAnswer}
 use Rattle.vb_core.specs.declared.event.FolderAnswer.TheVariants as answers
-use Rattle.vb_core.specs.declared.event.UploadStep.TheVariants as uploads
+use Rattle.vb_publish.specs.declared.step.UploadStep.TheVariants as uploads
 use Rattle.vb_core.specs.declared.event.CommitStep.TheVariants as commits
 use Rattle.vb_core.specs.Core.{Core, FolderView, MayAnswer, IsShownAfter, IsUnchanged, Steps, core_after, due_answer, is_busy, is_spent, tree_in, freeze_answer, commit_answer, upload_answer, drop_answer}
 use Rattle.vb_core.specs.Sound.{HasSoundHistory, HasSoundCloud, IsSound, published_front, published_tree_at}

@@ -16,8 +16,8 @@ use Rattle.vb_core.specs.declared.event.FolderAnswer.{FolderAnswer}
 use Rattle.vb_core.specs.declared.event.FolderAnswer.TheVariants as answers
 use Rattle.vb_core.specs.declared.event.CommitStep.{CommitStep}
 use Rattle.vb_core.specs.declared.event.CommitStep.TheVariants as commits
-use Rattle.vb_core.specs.declared.event.UploadStep.{UploadStep}
-use Rattle.vb_core.specs.declared.event.UploadStep.TheVariants as uploads
+use Rattle.vb_publish.specs.declared.step.UploadStep.{UploadStep}
+use Rattle.vb_publish.specs.declared.step.UploadStep.TheVariants as uploads
 use Rattle.vb_core.specs.declared.event.FreezeError.{FreezeError}
 use Rattle.vb_core.specs.declared.event.FreezeError.TheVariants as freezes
 use Rattle.vb_core.specs.declared.event.NoView.{NoView}

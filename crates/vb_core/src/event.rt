@@ -1,5 +1,6 @@
 // What can happen to a folder, and what each event answers.
 use thiserror::Error;
+use vb_publish::UploadStep;
 use vb_tree::{Op, Reply};
 
 /// One call on a folder.
@@ -28,15 +29,6 @@ pub enum CommitStep {
     Rested,
     /// No commit is on.
     Idle,
-}
-
-/// What an upload step did.
-#[derive(Clone, Copy, Debug, PartialEq, Eq)]
-pub enum UploadStep {
-    /// The cloud shows the view of this epoch.
-    Published { epoch: u64 },
-    /// No committed view stands.
-    Nothing,
 }
 
 /// Why a folder wasn't frozen.

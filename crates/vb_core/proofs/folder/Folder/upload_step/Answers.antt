@@ -1,7 +1,7 @@
 use Rattle.std.proofs.Common.{rules}
 use Rattle.vb_core.specs.declared.event.FolderEvent.TheVariants as events
 use Rattle.vb_core.specs.declared.event.FolderAnswer.TheVariants as answers
-use Rattle.vb_core.specs.declared.event.UploadStep.TheVariants as uploads
+use Rattle.vb_publish.specs.declared.step.UploadStep.TheVariants as uploads
 use Rattle.vb_core.proofs.Events.{sound-event}
 use Rattle.vb_core.proofs.folder.Folder.upload_step.Goals as goal
 
