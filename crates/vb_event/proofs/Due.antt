@@ -16,7 +16,7 @@ use Rattle.vb_event.specs.declared.answer.FolderAnswer.TheVariants as answers
 use Rattle.vb_event.specs.declared.answer.FaultKind.TheVariants.{Link}
 use Rattle.vb_event.specs.Core.{Core, Given}
 use Rattle.vb_event.specs.Answers.{is_last_due, message_answer}
-use Rattle.vb_event.specs.Steps.{IsDoubting, IsPublishing, MayBecome, ShowsAs, ShowsView, doubt_of, last_view, tree_in}
+use Rattle.vb_event.specs.Steps.{LeavesDoubt, LeavesPublished, MayBecome, ShowsAs, ShowsView, doubt_of, last_view, tree_in}
 use Rattle.vb_event.specs.Sound.{HasSoundHistory, HasSoundCloud, IsDueMessage}
 
 pub is-taken : (o : Opening) (core : Core) (given : Given) (k : CloudState) (tree : List TreeEntry) (m : Msg) → HasSoundHistory o core → HasSoundCloud o core k → IsDueMessage given core k tree m → IsOk (cloud_step k m)
@@ -49,25 +49,25 @@ becomes-sent o core given k after tree m s c due step = at (is_last_due given co
   where
     at : (last : Bool) → IsBehind core k after last
         → MayBecome given core events.UploadStep (answers.UploadStepped (message_answer last (Some core.epoch))) k after
-    at true shows = subst (λ u. IsPublishing u core.frozen core.epoch k after) (sym due.sure) shows
+    at true shows = subst (λ u. LeavesPublished u core.frozen core.epoch k after) (sym due.sure) shows
     at false shows = shows
 
 pub becomes-failed : (o : Opening) (core : Core) (given : Given) (k after : CloudState) (tree : List TreeEntry) (m : Msg) → HasSoundHistory o core → HasSoundCloud o core k → IsDueMessage given core k tree m
     → (after ≡ k) ⊎ (cloud_step k m ≡ Ok after) → MayBecome given core events.UploadStep (answers.Fault Link) k after
 becomes-failed o core given k after tree m s c due failed =
-    subst (λ d. IsDoubting d core.frozen k after) (sym doubt) (either failed)
+    subst (λ d. LeavesDoubt d core.frozen k after) (sym doubt) (either failed)
   where
     doubt : doubt_of given core core.unsure ≡ last_view (is_last_due given core) (Some core.epoch)
     doubt = ap (doubt_of given core) due.sure ∙ ap (last_view (is_last_due given core)) due.view
 
-    same : (last : Bool) → ShowsAs k after → IsDoubting (last_view last (Some core.epoch)) core.frozen k after
+    same : (last : Bool) → ShowsAs k after → LeavesDoubt (last_view last (Some core.epoch)) core.frozen k after
     same true shows = inl shows
     same false shows = shows
 
-    took : (last : Bool) → IsBehind core k after last → IsDoubting (last_view last (Some core.epoch)) core.frozen k after
+    took : (last : Bool) → IsBehind core k after last → LeavesDoubt (last_view last (Some core.epoch)) core.frozen k after
     took true shows = inr shows
     took false shows = shows.0
 
-    either : (after ≡ k) ⊎ (cloud_step k m ≡ Ok after) → IsDoubting (last_view (is_last_due given core) (Some core.epoch)) core.frozen k after
+    either : (after ≡ k) ⊎ (cloud_step k m ≡ Ok after) → LeavesDoubt (last_view (is_last_due given core) (Some core.epoch)) core.frozen k after
     either (inl is) = same (is_last_due given core) (ap (λ (x : CloudState). x.epoch) is, ap (λ (x : CloudState). x.tree) is)
     either (inr step) = took (is_last_due given core) (becomes core given k after tree m (is_last_due given core) refl due (c.draft tree due.frozen) step)

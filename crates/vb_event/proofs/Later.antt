@@ -14,7 +14,7 @@ use Rattle.vb_event.specs.declared.answer.CommitStep.TheVariants as commits
 use Rattle.vb_event.specs.declared.answer.FaultKind.TheVariants.{Link}
 use Rattle.vb_event.specs.Core.{Core, Given}
 use Rattle.vb_event.specs.Answers.{MayAnswer, MayStep, due_view, is_last_due, message_answer}
-use Rattle.vb_event.specs.Steps.{IsDoubting, IsPublishing, LeavesCloud, MayBecome, after_call, after_commit_step, after_drop, after_freeze, after_upload_step, core_after, doubt_of}
+use Rattle.vb_event.specs.Steps.{LeavesDoubt, LeavesPublished, LeavesCloud, MayBecome, after_call, after_commit_step, after_drop, after_freeze, after_upload_step, core_after, doubt_of}
 use Rattle.vb_event.specs.Sound.{HasSoundHistory, HasSoundCloud}
 use Rattle.vb_event.proofs.Transitions.{doubt-tells}
 
@@ -97,11 +97,11 @@ shown-sure o core k sure c = at c.epoch
 as-before : (before after : CloudState) → after ≡ before → before.epoch ≤ after.epoch
 as-before before after is = (let e = ap (λ k. k.epoch) is in omega arith)
 
-seen-published : (o : Opening) (core : Core) (unsure : Option ℕ) (epoch : ℕ) (before after : CloudState) → core.unsure ≡ unsure → core.published < epoch → IsPublishing unsure core.frozen epoch before after → HasSoundCloud o core before → before.epoch ≤ after.epoch
+seen-published : (o : Opening) (core : Core) (unsure : Option ℕ) (epoch : ℕ) (before after : CloudState) → core.unsure ≡ unsure → core.published < epoch → LeavesPublished unsure core.frozen epoch before after → HasSoundCloud o core before → before.epoch ≤ after.epoch
 seen-published o core (Some doubt) epoch before after is above may c = as-before before after may.0
 seen-published o core None epoch before after is above may c = (let shown = shown-sure o core before is c in omega (arith, may.0))
 
-seen-doubt : (o : Opening) (core : Core) (doubt : Option ℕ) (before after : CloudState) → IfSome doubt (λ epoch. (core.unsure ≡ None) × (core.standing ≡ Some epoch) × (core.stage ≢ Written)) → IsDoubting doubt core.frozen before after
+seen-doubt : (o : Opening) (core : Core) (doubt : Option ℕ) (before after : CloudState) → IfSome doubt (λ epoch. (core.unsure ≡ None) × (core.standing ≡ Some epoch) × (core.stage ≢ Written)) → LeavesDoubt doubt core.frozen before after
     → HasSoundHistory o core → HasSoundCloud o core before → before.epoch ≤ after.epoch
 seen-doubt o core None before after tells may s c = omega (arith, may.0)
 seen-doubt o core (Some epoch) before after tells (inl may) s c = omega (arith, may.0)

@@ -7,7 +7,7 @@ use Rattle.vb_hist.specs.Legal.{Opening, folder_at, waiting_view}
 use Rattle.vb_hist.proofs.Marked.{waiting-above}
 use Rattle.vb_cloud.specs.Machine.{CloudState}
 use Rattle.vb_event.specs.Core.{is_rested}
-use Rattle.vb_event.specs.Sound.{HasSoundHistory, HasSoundCloud, Recovers, opened, published_tree_at}
+use Rattle.vb_event.specs.Sound.{HasSoundHistory, HasSoundCloud, Recovers, core_at_start, published_tree_at}
 
 -- nothing comes up to the start
 none-before : (start : ℕ) → up_to_epoch start start [] ≡ []
@@ -23,7 +23,7 @@ none-before start = at (start == start)
 pub base-there : (o : Opening) → folder_at o [] o.start ≡ o.base
 base-there o = ap (folder_after o.base) (none-before o.start)
 
-pub opened-sound : (o : Opening) (sequence : ℕ) → o.published ≤ o.start → HasSoundHistory o (opened o sequence)
+pub opened-sound : (o : Opening) (sequence : ℕ) → o.published ≤ o.start → HasSoundHistory o (core_at_start o sequence)
 opened-sound o sequence ahead = record {
   legal = tt;
   whole = tt;
@@ -40,7 +40,7 @@ opened-sound o sequence ahead = record {
   };
 }
 
-pub opened-shown : (o : Opening) (sequence : ℕ) (k : CloudState) → k.epoch ≡ o.published → k.tree ≡ o.published_tree → HasSoundCloud o (opened o sequence) k
+pub opened-shown : (o : Opening) (sequence : ℕ) (k : CloudState) → k.epoch ≡ o.published → k.tree ≡ o.published_tree → HasSoundCloud o (core_at_start o sequence) k
 opened-shown o sequence k epoch tree = record {
   epoch = inl epoch;
   tree = tree ∙ sym (ap (published_tree_at o []) epoch ∙ ap (λ b. if b then o.published_tree else folder_at o [] o.published) (same o.published));
@@ -50,5 +50,5 @@ opened-shown o sequence k epoch tree = record {
     same : (n : ℕ) → (n == n) ≡ true
     same n = grind (arith)
 
-pub opened-recovers : (o : Opening) (sequence : ℕ) → Recovers o (opened o sequence) o.start o.base
+pub opened-recovers : (o : Opening) (sequence : ℕ) → Recovers o (core_at_start o sequence) o.start o.base
 opened-recovers o sequence = record { may = inl refl; is_folder = sym (base-there o) }

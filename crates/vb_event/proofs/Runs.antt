@@ -1,5 +1,5 @@
 -- Runs: a folder after a list of events, and the promise between its two ends.
-use Rattle.std.proofs.Common.{◌≡◌, ℕ, ◌<◌, ◌≤◌, ◌==◌, inl, inr, true, false, if◌then◌else◌, List, [], ◌∷◌, Option, Some, None, refl, ap, sym, ◌∙◌, subst, subst₂, append-nil, arith}
+use Rattle.std.proofs.Common.{◌≡◌, ℕ, ◌<◌, ◌≤◌, ◌==◌, inl, inr, true, false, if◌then◌else◌, List, [], ◌∷◌, ◌++◌, Option, Some, None, refl, ap, sym, ◌∙◌, subst, subst₂, append-nil, arith}
 use Rattle.std.proofs.lemmas.Bool.Decides.{nat_tests}
 use mathlib.Core.List.{IsPrefix}
 use Rattle.vb_hist.specs.Histories.{IsFrozenAt, up_to_epoch}
@@ -134,3 +134,17 @@ promise o before after b s rises = record {
 
 pub promise-run : (o : Opening) (before after : FolderView) (run : List Happening) → Runs before run after → IsSound o before → KeepsPromise o before after
 promise-run o before after run made s = promise o before after s (sound-run o before after run made s) (rises-run o before after run made s)
+
+-- ---- a moment on the way
+
+run-split : (before after : FolderView) (first more : List Happening) → Runs before (first ++ more) after → (mid : FolderView) × Runs before first mid × Runs mid more after
+run-split before after [] more made = (before, refl, made)
+run-split before after (one ∷ others) more (next, given, step, made) =
+    let rest = run-split next after others more made in
+    (rest.0, (next, given, step, rest.1), rest.2)
+
+pub promise-passed : (o : Opening) (before after : FolderView) (first more : List Happening) → Runs before (first ++ more) after → IsSound o before
+    → (mid : FolderView) × Runs before first mid × Runs mid more after × KeepsPromise o before mid × KeepsPromise o mid after
+promise-passed o before after first more made s =
+    let split = run-split before after first more made in
+    (split.0, split.1, split.2, promise-run o before split.0 first split.1 s, promise-run o split.0 after more split.2 (sound-run o before split.0 first split.1 s))

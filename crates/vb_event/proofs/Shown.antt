@@ -24,7 +24,7 @@ use Rattle.vb_event.specs.declared.answer.FaultKind.{FaultKind}
 use Rattle.vb_event.specs.declared.answer.FaultKind.TheVariants.{Damaged, Disk, Link, Memory}
 use Rattle.vb_event.specs.Core.{Core, Given, IsGiven, is_busy, is_rested}
 use Rattle.vb_event.specs.Answers.{MayAnswer, MayStep, IsDue, due_view, drop_answer, is_last_due, is_spent, message_answer, commit_answer}
-use Rattle.vb_event.specs.Steps.{IsDoubting, IsPublishing, MayBecome, ShowsAs, ShowsView, after_upload_step, core_after, doubt_of, epoch_or, frozen_while, pushed_by_upload, tree_in}
+use Rattle.vb_event.specs.Steps.{LeavesDoubt, LeavesPublished, MayBecome, ShowsAs, ShowsView, after_upload_step, core_after, doubt_of, epoch_or, frozen_while, pushed_by_upload, tree_in}
 use Rattle.vb_event.specs.Sound.{HasSoundHistory, HasSoundCloud, IsPublishedFreeze, published_tree_at}
 use Rattle.vb_event.proofs.Noted.{doubt-frozen, folder_at-grows, frozen-at, last-frozen, line-ordered, with_history}
 use Rattle.vb_event.proofs.Transitions.{doubt-tells, or-none, sound-event}
@@ -187,12 +187,12 @@ cloud-sent o core given before after s n shows taken c =
     told (inr h) = inr (h ∙ ap (λ e. Some e) (sym shows.0))
 
 -- a publication where nothing is in doubt
-fresh-shows : (o : Opening) (core : Core) (epoch : ℕ) (before after : CloudState) → core.unsure ≡ None → IsPublishing core.unsure core.frozen epoch before after → ShowsView epoch core.frozen after
-fresh-shows o core epoch before after sure may = subst (λ u. IsPublishing u core.frozen epoch before after) sure may
+fresh-shows : (o : Opening) (core : Core) (epoch : ℕ) (before after : CloudState) → core.unsure ≡ None → LeavesPublished core.unsure core.frozen epoch before after → ShowsView epoch core.frozen after
+fresh-shows o core epoch before after sure may = subst (λ u. LeavesPublished u core.frozen epoch before after) sure may
 
 -- and where an epoch is
-asked-shows : (core : Core) (epoch : ℕ) (before after : CloudState) (doubt : ℕ) → core.unsure ≡ Some doubt → IsPublishing core.unsure core.frozen epoch before after → (after ≡ before) × (before.epoch ≡ epoch)
-asked-shows core epoch before after doubt sure may = subst (λ u. IsPublishing u core.frozen epoch before after) sure may
+asked-shows : (core : Core) (epoch : ℕ) (before after : CloudState) (doubt : ℕ) → core.unsure ≡ Some doubt → LeavesPublished core.unsure core.frozen epoch before after → (after ≡ before) × (before.epoch ≡ epoch)
+asked-shows core epoch before after doubt sure may = subst (λ u. LeavesPublished u core.frozen epoch before after) sure may
 
 cloud-message : (o : Opening) (core : Core) (given : Given) (before after : CloudState) (last : Bool) (standing : Option ℕ) (stage : Stage) → core.unsure ≡ None → core.standing ≡ standing → HasSoundHistory o core
     → HasSoundHistory o (core_after given core events.UploadStep (answers.UploadStepped (message_answer last (due_view standing stage))))
@@ -236,7 +236,7 @@ cloud-asked o core given before after doubt step sure may s n becomes c = at ste
 -- a link that failed
 cloud-link : (o : Opening) (core : Core) (given : Given) (before after : CloudState) (doubt : Option ℕ) → IfSome doubt (λ epoch. (core.unsure ≡ None) × (core.standing ≡ Some epoch) × (core.stage ≢ Written)) → HasSoundHistory o core
     → HasSoundHistory o (with_history (after_upload_step doubt core (answers.Fault Link)) (core.history ++ pushed_by_upload doubt (answers.Fault Link)))
-    → IsDoubting doubt core.frozen before after → HasSoundCloud o core before
+    → LeavesDoubt doubt core.frozen before after → HasSoundCloud o core before
     → HasSoundCloud o (with_history (after_upload_step doubt core (answers.Fault Link)) (core.history ++ pushed_by_upload doubt (answers.Fault Link))) after
 cloud-link o core given before after None tells s n shows c = cloud-as o core _ _ before after s n refl shows (told c.epoch) (λ tree frozen. inl refl) c
   where

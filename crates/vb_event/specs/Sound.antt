@@ -90,8 +90,8 @@ pub record IsSound (o : Opening) (folder : FolderView) : Type 0 where
   pub link_faults : o.link_faults ≤ folder.link_faults
 
 -- a folder that was opened so, with this sequence: no commit is on, and the last view stands where it waits to be published
-abbrev pub opened : Opening → ℕ → Core
-opened o sequence = record {
+abbrev pub core_at_start : Opening → ℕ → Core
+core_at_start o sequence = record {
   limits = o.limits;
   history = [];
   epoch = o.start;

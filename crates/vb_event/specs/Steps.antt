@@ -39,9 +39,9 @@ doubt_of given core (Some doubt) = None
 doubt_of given core None = last_view (is_last_due given core) (due_view core.standing core.stage)
 
 -- the entry of a doubt
-abbrev pub doubts : Option ℕ → List Entry
-doubts None = []
-doubts (Some epoch) = Doubt epoch ∷ []
+abbrev pub doubt_entries : Option ℕ → List Entry
+doubt_entries None = []
+doubt_entries (Some epoch) = Doubt epoch ∷ []
 
 -- an operation that was answered pushes its call with the reply
 abbrev pub pushed_by_call : ℕ → Op → FolderAnswer → List Entry
@@ -63,7 +63,7 @@ pushed_by_commit last other = []
 -- an upload step pushes a publication, and where the link failed the doubt that this leaves
 abbrev pub pushed_by_upload : Option ℕ → FolderAnswer → List Entry
 pushed_by_upload doubt (answers.UploadStepped (uploads.Published epoch)) = Publish epoch ∷ []
-pushed_by_upload doubt (answers.Fault Link) = doubts doubt
+pushed_by_upload doubt (answers.Fault Link) = doubt_entries doubt
 pushed_by_upload doubt other = []
 
 -- a drop pushes that the view was given up
@@ -183,23 +183,23 @@ abbrev pub ShowsView : ℕ → Option (List TreeEntry) → CloudState → Type 0
 ShowsView epoch frozen k = (k.epoch ≡ epoch) × (k.tree ≡ tree_in frozen)
 
 -- a publication: the cloud was asked and shows the epoch in doubt, or it took the last message and shows the frozen tree
-abbrev pub IsPublishing : Option ℕ → Option (List TreeEntry) → ℕ → CloudState → CloudState → Type 0
-IsPublishing (Some doubt) frozen epoch before after = (after ≡ before) × (before.epoch ≡ epoch)
-IsPublishing None frozen epoch before after = ShowsView epoch frozen after
+abbrev pub LeavesPublished : Option ℕ → Option (List TreeEntry) → ℕ → CloudState → CloudState → Type 0
+LeavesPublished (Some doubt) frozen epoch before after = (after ≡ before) × (before.epoch ≡ epoch)
+LeavesPublished None frozen epoch before after = ShowsView epoch frozen after
 
 -- where a view is left in doubt the cloud may show it; what it showed stays else
-abbrev pub IsDoubting : Option ℕ → Option (List TreeEntry) → CloudState → CloudState → Type 0
-IsDoubting None frozen before after = ShowsAs before after
-IsDoubting (Some epoch) frozen before after = ShowsAs before after ⊎ ShowsView epoch frozen after
+abbrev pub LeavesDoubt : Option ℕ → Option (List TreeEntry) → CloudState → CloudState → Type 0
+LeavesDoubt None frozen before after = ShowsAs before after
+LeavesDoubt (Some epoch) frozen before after = ShowsAs before after ⊎ ShowsView epoch frozen after
 
 -- what a cloud may be after an upload step that was answered so; a message that was sent and isn't the last leaves what it
 -- shows, and the messages so far make its draft
 abbrev pub LeavesCloud : Option ℕ → Core → FolderAnswer → CloudState → CloudState → Type 0
 LeavesCloud doubt core (answers.UploadStepped uploads.Sent) before after =
     ShowsAs before after × HasTaken (core.sent + 1) core.epoch (tree_in core.frozen) after
-LeavesCloud doubt core (answers.UploadStepped (uploads.Published epoch)) before after = IsPublishing core.unsure core.frozen epoch before after
+LeavesCloud doubt core (answers.UploadStepped (uploads.Published epoch)) before after = LeavesPublished core.unsure core.frozen epoch before after
 LeavesCloud doubt core (answers.UploadStepped uploads.Asked) before after = (after ≡ before) × (core.unsure ≡ Some before.epoch → ⊥)
-LeavesCloud doubt core (answers.Fault Link) before after = IsDoubting doubt core.frozen before after
+LeavesCloud doubt core (answers.Fault Link) before after = LeavesDoubt doubt core.frozen before after
 LeavesCloud doubt core other before after = after ≡ before
 
 -- what a cloud may be after an event that was answered so: an upload step alone calls it

@@ -12,7 +12,7 @@ ghost use Rattle.vb_cloud.specs.Machine.{CloudState, cloud_step};
 ghost use Rattle.vb_event.specs.Answers.{MayAnswer, commit_answer, is_last_due, is_spent, message_answer};
 ghost use Rattle.vb_event.specs.Core.{Core, FolderView, Given, BringToRest, IsGiven, KeepsPace, epochs_end};
 ghost use Rattle.vb_event.specs.Promise.{KeepsPromise};
-ghost use Rattle.vb_event.specs.Sound.{HasSoundCloud, HasSoundHistory, IsDueMessage, IsSound, MayRecover, Recovers, opened, with_counts};
+ghost use Rattle.vb_event.specs.Sound.{HasSoundCloud, HasSoundHistory, IsDueMessage, IsSound, MayRecover, Recovers, core_at_start, with_counts};
 ghost use Rattle.vb_event.specs.Steps.{Happening, MayBecome, Runs, after_answers, core_after};
 ghost use Rattle.vb_event.specs.declared.answer.CommitStep.{CommitStep};
 ghost use Rattle.vb_event.specs.declared.answer.CommitStep.TheVariants as commits;
@@ -25,10 +25,10 @@ ghost use Rattle.vb_event.specs.declared.event.FolderEvent.TheVariants as events
 /// A folder that was opened over a disk which isn't behind its cloud is sound, a cloud that shows what the opening says is
 /// sound for it, and what the disk may recover is the opening's tree. It does nothing.
 pub fn openings_are_sound()
-    ensures history { (o : Opening) (sequence : ℕ) → o.published ≤ o.start → HasSoundHistory o (opened o sequence) }
+    ensures history { (o : Opening) (sequence : ℕ) → o.published ≤ o.start → HasSoundHistory o (core_at_start o sequence) }
     ensures cloud { (o : Opening) (sequence : ℕ) (k : CloudState) → k.epoch ≡ o.published → k.tree ≡ o.published_tree
-        → HasSoundCloud o (opened o sequence) k }
-    ensures tree { (o : Opening) (sequence : ℕ) → Recovers o (opened o sequence) o.start o.base }
+        → HasSoundCloud o (core_at_start o sequence) k }
+    ensures tree { (o : Opening) (sequence : ℕ) → Recovers o (core_at_start o sequence) o.start o.base }
 {}
 
 /// Whatever answer of those that may come has come, each event keeps the history sound. It does nothing.
@@ -97,11 +97,15 @@ pub fn events_keep_trees()
 {}
 
 /// Over every list of events, with any answers that may come, a sound folder stays sound and keeps its promise: what is
-/// published is the folder at a freeze of its history, and what is published later goes on from it. It does nothing.
+/// published is the folder at a freeze of its history, and what is published later goes on from it; and so at each moment on
+/// the way. It does nothing.
 pub fn runs_keep_the_promise()
     ensures sound { (o : Opening) (before after : FolderView) (run : List Happening) → Runs before run after → IsSound o before → IsSound o after }
     ensures promise { (o : Opening) (before after : FolderView) (run : List Happening) → Runs before run after → IsSound o before
         → KeepsPromise o before after }
+    ensures moments { (o : Opening) (before after : FolderView) (first more : List Happening) → Runs before (first ++ more) after
+        → IsSound o before → (mid : FolderView) × Runs before first mid × Runs mid more after × KeepsPromise o before mid
+        × KeepsPromise o mid after }
 {}
 
 /// A folder that is sound for an opening is sound for the same one with lower counts of faults. It does nothing.
