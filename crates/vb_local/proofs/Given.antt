@@ -1,5 +1,5 @@
 -- The pages of a commit: the frozen view has each that is due, and they are on the disk where every planned one is.
-use Rattle.std.proofs.Common.{◌≡◌, ℕ, suc, List, [], ◌∷◌, unwrap_or, All, Option, None, Some, refl, sym, ap, ◌∙◌, arith}
+use Rattle.std.proofs.Common.{◌≡◌, ℕ, suc, List, [], ◌∷◌, unwrap_or, All, Option, None, Some, refl, sym, ap, subst, ◌∙◌, arith}
 use Rattle.std.specs.Prelude.{Contains}
 use Rattle.std.specs.Option.{option_map}
 use Rattle.std.proofs.lemmas.List.Elements.{All-contains}
@@ -15,7 +15,8 @@ use Rattle.vb_plan.specs.declared.plan_page.PlanPage.{PlanPage}
 use Rattle.vb_plan.specs.declared.plan_page.PlanPage.TheVariants.{Data, Map}
 use Rattle.vb_plan.specs.Plans.{data_page}
 use Rattle.vb_commit.specs.Known.{IsEvery}
-use Rattle.vb_commit.specs.Ways.{after_first, IsGiven, IsGivenFrom}
+use Rattle.vb_commit.specs.declared.due_page.DuePage.{DuePage}
+use Rattle.vb_commit.specs.Ways.{after_first, due_in, IsGiven, IsGivenFrom}
 use Rattle.vb_local.specs.Ties.{given_of, source_in, FrozenState, HaveDigests, IsKeptIn}
 
 -- ---- a page that is due
@@ -61,3 +62,14 @@ holds-kept d frozen next plan slot page bytes reference every digests kept at ha
       same = λ k e within. every-kept d frozen plan slot page bytes reference every kept has k e within ∙ sym first;
       due = ap sha256 first ∙ sym digest;
     }
+
+-- where a page of data is due, the page that the frozen view keeps there is given
+due-gives : (frozen : FrozenState) (pages : List PlanPage) (due : DuePage) → All (IsKeptIn frozen.pages) pages → due_in pages ≡ Some due → (given : Option (List ℕ)) → given ≡ kept_page frozen.pages due.slot due.page → given ≡ given_of pages frozen
+due-gives frozen [] due kept is given at = absurd (cc is)
+due-gives frozen (Data slot page r ∷ left) due kept is given at =
+    let same : record { slot = slot; page = page } ≡ due = cc is in
+    at ∙ sym (ap (λ (x : DuePage). kept_page frozen.pages x.slot x.page) same)
+due-gives frozen (Map place image ∷ left) due kept is given at = absurd (cc is)
+
+pub page-gives : (frozen : FrozenState) (pages : List PlanPage) (due : DuePage) → All (IsKeptIn frozen.pages) pages → due_in pages ≡ Some due → (given : Option (List ℕ)) → given ≡ kept_page frozen.pages due.slot due.page → IsGiven pages given
+page-gives frozen pages due kept is given at = subst (IsGiven pages) (sym (due-gives frozen pages due kept is given at)) (page-given frozen pages kept)

@@ -3,3 +3,12 @@ pub mod Settled
 pub mod Planned
 pub mod Frozen
 pub mod Given
+pub mod SettledPages
+pub mod WayAnswers
+pub mod LivePlaces
+pub mod Begun
+pub mod PlansShown
+pub mod TreesOn
+pub mod WaysShown
+pub mod FoldersShown
+pub mod StepsGiven

@@ -61,11 +61,11 @@ some_before pages left slot page s k forgets some = by ((s == slot) && (k == pag
   by false is = is
 
 -- whether it is the page
-record IsThere (slot page s k : ℕ) : Type 0 where
-  slots : s ≡ slot
-  pages : k ≡ page
+pub record IsThere (slot page s k : ℕ) : Type 0 where
+  pub slots : s ≡ slot
+  pub pages : k ≡ page
 
-which : (slot page s k : ℕ) → IsThere slot page s k ⊎ (((s == slot) && (k == page)) ≡ false)
+pub which : (slot page s k : ℕ) → IsThere slot page s k ⊎ (((s == slot) && (k == page)) ≡ false)
 which slot page s k = elim (cases_Bool (s == slot)) [
   | inr other ↦ inr (ap (λ (b : Bool). b && (k == page)) other)
   | inl same ↦ elim (cases_Bool (k == page)) [
