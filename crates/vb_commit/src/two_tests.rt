@@ -1,5 +1,5 @@
 // A commit of two files at once over a store of 64 places and 16 nodes, on a disk in memory.
-ghost use Rattle.std.specs.Prelude.{◌≡◌, ◌≤◌, ◌∷◌, [], length, IsSome, IfOk, OnOk};
+ghost use Rattle.std.specs.Prelude.{◌≡◌, ◌≤◌, ◌<◌, ◌^◌, ◌∷◌, [], length, IsSome, IfOk, OnOk};
 ghost use Rattle.vb_inode.specs.declared.next_view.PageSource.TheVariants.{Fresh};
 ghost use Rattle.vb_plan.specs.Worked.{file_next, root_next};
 ghost use Rattle.vb_store.specs.Views.{HasNoneBegun};
@@ -30,15 +30,19 @@ fn two_files(alloc: Global, first: Digest, second: Digest) -> Result<NextView, A
     Ok(next)
 }
 
-// Starts a commit of both, whose pages these are, at epoch 1 over a view of that store.
+// Starts a commit of both, whose pages these are, over a view of that store.
 fn begin_two(
     alloc: Global,
     view: &mut View,
     first: &Page,
     second: &Page,
+    epoch: u64,
 ) -> Result<Committing, Fail>
-    requires { HasNoneBegun view.old }
+    requires none_begun { HasNoneBegun view.old }
+    requires epoch { epoch < 2 ^ 63 }
     ensures blocks { IfOk result (λ commit. commit.head.blocks ≤ 64) }
+    ensures head { IfOk result (λ commit. commit.head ≡ view.new.head) }
+    ensures begun { OnOk result (IsSome view.new.next) }
 {
     if !is_small(view) {
         return Err(Fail::from("another store"));
@@ -47,7 +51,7 @@ fn begin_two(
         return Err(Fail::from("no name"));
     }
     let next = two_files(alloc, page_digest(first), page_digest(second))?;
-    Ok(Committing::start(alloc, view, &next, 1)?)
+    Ok(Committing::start(alloc, view, &next, epoch)?)
 }
 
 // Makes a step, with that of these pages which is due, if one is.
@@ -59,6 +63,7 @@ fn step_of_two<D: Disk>(
 ) -> Result<CommitStep, DiskError>
     requires { commit.old.head.blocks ≤ 64 }
     ensures head { commit.new.head ≡ commit.old.head }
+    ensures epoch { commit.new.epoch ≡ commit.old.epoch }
 {
     if disk.size()? < 64 {
         return Err(DiskError::Failed);
@@ -81,6 +86,7 @@ fn steps_of_two<D: Disk>(
 ) -> Result<u32, DiskError>
     requires { commit.old.head.blocks ≤ 64 }
     ensures head { commit.new.head ≡ commit.old.head }
+    ensures epoch { commit.new.epoch ≡ commit.old.epoch }
 {
     let mut made = 0u32;
     'steps: for _ in 0..count {
@@ -92,14 +98,36 @@ fn steps_of_two<D: Disk>(
     Ok(made)
 }
 
-// What is left of the commit after so many steps, and how many of them made a call.
+// Commits both with these pages at epoch 1, to its end.
+fn commit_both(
+    alloc: Global,
+    mounted: &mut Mounted<MemoryDisk>,
+    first: &Page,
+    second: &Page,
+) -> Result<(), Fail>
+    requires { HasNoneBegun mounted.old.view }
+    ensures { OnOk result (HasNoneBegun mounted.new.view) }
+{
+    let mut commit = begin_two(alloc, &mut mounted.view, first, second, 1)?;
+    steps_of_two(&mut commit, &mut mounted.disk, first, second, 100)?;
+    mounted.view.commit_done(commit.head());
+    Ok(())
+}
+
+// What is left of a second commit of both after so many steps, and how many of them made a call.
 fn left_of_two(alloc: Global, count: u32) -> Result<(MemoryDisk, u32), Fail> {
     let mut disk = MemoryDisk::new(alloc, 0)?;
     format(alloc, &mut disk, FolderId::of([7; 16]), 64, 16)?;
     let mut mounted = mounted_on(alloc, disk)?;
+    commit_both(
+        alloc,
+        &mut mounted,
+        &page_of(alloc, b"p")?,
+        &page_of(alloc, b"q")?,
+    )?;
     let first = page_of(alloc, b"x")?;
     let second = page_of(alloc, b"y")?;
-    let mut commit = begin_two(alloc, &mut mounted.view, &first, &second)?;
+    let mut commit = begin_two(alloc, &mut mounted.view, &first, &second, 2)?;
     let made = steps_of_two(&mut commit, &mut mounted.disk, &first, &second, count)?;
     let Mounted { disk, .. } = mounted;
     Ok((disk, made))
@@ -154,7 +182,7 @@ fn two_files_are_committed_in_eighteen_steps(rt: HostRuntime) -> Result<(), Fail
     let alloc = rt.alloc();
     let (disk, made) = left_of_two(alloc, 100)?;
     assert_eq!(rt; made, 18);
-    assert_eq!(rt; epoch_of_two(alloc, disk)?, (1, true, true));
+    assert_eq!(rt; epoch_of_two(alloc, disk)?, (2, true, true));
     Ok(())
 }
 
@@ -166,6 +194,6 @@ fn a_mount_that_is_cut_off_loses_none_of_two_files(rt: HostRuntime) -> Result<()
     crash(&mut disk, Side::First, None)?;
     let mut disk = mounted_by(alloc, disk, 10)?;
     crash(&mut disk, Side::First, None)?;
-    assert_eq!(rt; epoch_of_two(alloc, disk)?, (1, true, true));
+    assert_eq!(rt; epoch_of_two(alloc, disk)?, (2, true, true));
     Ok(())
 }
