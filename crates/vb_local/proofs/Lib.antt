@@ -5,6 +5,7 @@ pub mod Frozen
 pub mod Given
 pub mod SettledPages
 pub mod WayAnswers
+pub mod AnswersLeft
 pub mod LivePlaces
 pub mod Begun
 pub mod PlansShown

@@ -1,5 +1,5 @@
 -- The answers that the steps of a commit will still give, in their order.
-use Rattle.std.specs.Prelude.{◌≡◌, ℕ, ◌-◌, List, [], ◌∷◌, ◌++◌, length, replicate, Result, Ok, Err}
+use Rattle.std.specs.Prelude.{◌≡◌, ℕ, ◌-◌, Bool, true, false, List, [], ◌∷◌, ◌++◌, length, replicate, Result, Ok, Err}
 use Rattle.vb_commit.specs.Ways.{WayState}
 use Rattle.vb_disk.specs.declared.disk_error.DiskError.{DiskError}
 use Rattle.vb_journal.specs.declared.commit_stage.CommitStep.{CommitStep}
@@ -55,3 +55,28 @@ abbrev pub GivesFirst : List CommitStep → List CommitStep → Result CommitSte
 GivesFirst [] left result = (result ≡ Ok Idle) × (left ≡ [])
 GivesFirst (answer ∷ answers) left (Ok step) = (step ≡ answer) × (left ≡ answers)
 GivesFirst (answer ∷ answers) left (Err error) = left ≡ answer ∷ answers
+
+-- ---- how they end
+
+-- whether no crash loses the view of a commit at a stage
+abbrev pub is_committed : Stage → Bool
+is_committed (Journal next) = false
+is_committed (Opening turn) = false
+is_committed (Homes next) = true
+is_committed (Closing turn) = true
+is_committed Rested = true
+
+-- whether that is so in a phase
+abbrev pub is_committed_in : PhaseState → Bool
+is_committed_in (Rests frozen) = true
+is_committed_in (Waits frozen epoch) = false
+is_committed_in (Writes frozen way) = is_committed way.stage
+
+-- these answers bring a commit to its rest, which was committed before or wasn't: where it wasn't it is committed once, and
+-- then it rests, with the last of them
+abbrev pub EndAtRest : Bool → List CommitStep → Type 0
+EndAtRest committed (Wrote ∷ left) = EndAtRest committed left
+EndAtRest committed (Synced ∷ left) = EndAtRest committed left
+EndAtRest false (Committed ∷ left) = EndAtRest true left
+EndAtRest true (RestedNow ∷ left) = left ≡ []
+EndAtRest committed left = ⊥

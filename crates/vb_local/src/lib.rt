@@ -1,6 +1,7 @@
 // The folder on its disk: its live, frozen and committed view, and the commit that is on.
 #![tactic(auto)]
 
+mod answer_laws;
 mod freezing;
 mod going_on;
 mod laws;
@@ -12,6 +13,7 @@ mod shown_laws;
 mod starting;
 mod stepping;
 
+pub use answer_laws::answers_are_left_while_a_commit_is_on;
 pub use laws::{
     a_due_page_is_kept, a_freeze_can_be_committed, a_plan_has_the_frozen_pages,
     a_rested_commit_holds_the_frozen_pages, a_rested_commit_is_relied_on,
