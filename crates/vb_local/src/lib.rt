@@ -22,3 +22,6 @@ pub use laws::{
 };
 pub use local::Local;
 pub use shown_laws::{a_shown_folder_is_recovered, a_shown_folder_stays};
+
+#[cfg(test)]
+mod tests;
