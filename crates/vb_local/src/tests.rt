@@ -161,46 +161,64 @@ fn small_folder(alloc: Global) -> Result<OnDisk, Fail> {
     Ok(folder)
 }
 
-// Whether the live and the frozen view keep a page of the file in memory.
-fn kept(folder: &OnDisk) -> (bool, Option<bool>) {
+// What a test sees of a folder: the epoch of the view that stands, the committed epoch, and whether the live and the
+// frozen view keep a page of the file in memory.
+type Seen = (Option<u64>, u64, bool, Option<bool>);
+
+// What is seen of a folder.
+fn seen(folder: &OnDisk) -> Seen {
     let live = folder.local.live().pages().get(1, 0).is_some();
     let frozen = match folder.local.frozen() {
         Some(frozen) => Some(frozen.dirty_page(1, 0).is_some()),
         None => None,
     };
-    (live, frozen)
+    let epoch = folder.local.view().head().epoch;
+    (folder.local.standing(), epoch, live, frozen)
+}
+
+// Commits the live view, and gives what is seen once it is frozen, once its commit rests and once no view stands, and
+// whether each answer was the one that was due.
+fn commit(folder: &mut OnDisk, alloc: Global) -> Result<(Seen, Seen, Seen, bool), Fail> {
+    freeze(folder, alloc)?;
+    let frozen = seen(folder);
+    let due = answers_are_due(folder, alloc)?;
+    let rested = seen(folder);
+    folder.local.drop_view();
+    Ok((frozen, rested, seen(folder), due))
+}
+
+// The same of a new folder with `hello` in the file.
+fn first_commit(alloc: Global) -> Result<(Seen, Seen, Seen, bool), Fail> {
+    let mut folder = small_folder(alloc)?;
+    commit(&mut folder, alloc)
 }
 
 #[test]
 fn a_commit_takes_its_steps_and_settles_the_page(rt: HostRuntime) -> Result<(), Fail> {
-    let alloc = rt.alloc();
-    let mut folder = small_folder(alloc)?;
-    freeze(&mut folder, alloc)?;
-    assert_eq!(rt; folder.local.standing(), Some(1));
-    assert_eq!(rt; kept(&folder), (true, Some(true)));
-    assert!(rt; answers_are_due(&mut folder, alloc)?);
-    assert!(rt; folder.local.is_resting());
-    assert_eq!(rt; kept(&folder), (false, Some(false)));
-    assert_eq!(rt; folder.local.view().head().epoch, 1);
-    assert_eq!(rt; read(&mut folder, alloc)?, bytes_of(alloc, b"hello")?);
-    folder.local.drop_view();
-    assert!(rt; !folder.local.is_standing());
-    assert_eq!(rt; kept(&folder), (false, None));
+    let (frozen, rested, dropped, due) = first_commit(rt.alloc())?;
+    assert_eq!(rt; frozen, (Some(1), 0, true, Some(true)));
+    assert_eq!(rt; rested, (Some(1), 1, false, Some(false)));
+    assert_eq!(rt; dropped, (None, 1, false, None));
+    assert!(rt; due);
     Ok(())
 }
 
-// What is in memory of the file's page, and the file's bytes, once a commit of `hello` rests that was on while this text
-// was written.
-fn rested_with(alloc: Global, text: &[u8]) -> Result<((bool, Option<bool>), Reply), Fail> {
-    let mut folder = small_folder(alloc)?;
-    freeze(&mut folder, alloc)?;
-    step(&mut folder, alloc)?;
-    write(&mut folder, alloc, text)?;
+// What is seen, and the file's bytes, once a commit rests that was on while this text was written.
+fn write_meanwhile(folder: &mut OnDisk, alloc: Global, text: &[u8]) -> Result<(Seen, Reply), Fail> {
+    freeze(folder, alloc)?;
+    step(folder, alloc)?;
+    write(folder, alloc, text)?;
     'rest: for _ in 0..13u32 {
-        step(&mut folder, alloc)?;
+        step(folder, alloc)?;
     }
-    let bytes = read(&mut folder, alloc)?;
-    Ok((kept(&folder), bytes))
+    let bytes = read(folder, alloc)?;
+    Ok((seen(folder), bytes))
+}
+
+// The same of a new folder with `hello` in the file.
+fn rested_with(alloc: Global, text: &[u8]) -> Result<(Seen, Reply), Fail> {
+    let mut folder = small_folder(alloc)?;
+    write_meanwhile(&mut folder, alloc, text)
 }
 
 #[test]
@@ -208,7 +226,7 @@ fn a_page_written_since_with_other_bytes_stays_in_memory(rt: HostRuntime) -> Res
     let alloc = rt.alloc();
     let rows: [(&[u8], bool); 2] = [(b"hello", false), (b"other!", true)];
     'rows: for (text, stays) in rows {
-        let due = ((stays, Some(false)), bytes_of(alloc, text)?);
+        let due = ((Some(1), 1, stays, Some(false)), bytes_of(alloc, text)?);
         assert_eq!(rt; rested_with(alloc, text)?, due);
     }
     Ok(())
