@@ -12,7 +12,7 @@ use Rattle.vb_hist.proofs.Ordered.{ordered, IsOrdered}
 use Rattle.vb_hist.proofs.Marked.{IsPast}
 use Rattle.vb_hist.proofs.Newer.{IsNewer}
 use Rattle.vb_hist.proofs.Earlier.{bounds-frozen}
-use Rattle.vb_event.specs.declared.answer.CommitStep.{CommitStep}
+use Rattle.vb_journal.specs.declared.commit_stage.CommitStep.{CommitStep}
 use Rattle.vb_event.specs.Core.{Core, is_busy}
 use Rattle.vb_event.specs.Sound.{HasSoundHistory, IsCoherent, TellsMarks}
 

@@ -6,8 +6,8 @@ use Rattle.vb_tree.specs.declared.operation.Op.{Op}
 use Rattle.vb_hist.specs.declared.entry.Stage.{Stage}
 use Rattle.vb_hist.specs.declared.entry.Stage.TheVariants.{Rested, Written, Committed}
 use Rattle.vb_publish.specs.declared.step.UploadStep.TheVariants as uploads
-use Rattle.vb_event.specs.declared.answer.CommitStep.{CommitStep}
-use Rattle.vb_event.specs.declared.answer.CommitStep.TheVariants as commits
+use Rattle.vb_journal.specs.declared.commit_stage.CommitStep.{CommitStep}
+use Rattle.vb_journal.specs.declared.commit_stage.CommitStep.TheVariants as commits
 use Rattle.vb_event.specs.declared.answer.FaultKind.TheVariants.{Link}
 use Rattle.vb_event.specs.declared.answer.FolderAnswer.{FolderAnswer}
 use Rattle.vb_event.specs.declared.answer.FolderAnswer.TheVariants as answers

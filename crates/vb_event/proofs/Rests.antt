@@ -2,8 +2,8 @@
 use Rattle.std.proofs.Common.{◌≡◌, ◌≢◌, List, [], ◌∷◌, ◌++◌, refl, ap, sym, ◌∙◌, append-nil}
 use Rattle.vb_hist.specs.declared.entry.Stage.{Stage}
 use Rattle.vb_hist.specs.declared.entry.Stage.TheVariants.{Rested, Written, Committed}
-use Rattle.vb_event.specs.declared.answer.CommitStep.{CommitStep}
-use Rattle.vb_event.specs.declared.answer.CommitStep.TheVariants as commits
+use Rattle.vb_journal.specs.declared.commit_stage.CommitStep.{CommitStep}
+use Rattle.vb_journal.specs.declared.commit_stage.CommitStep.TheVariants as commits
 use Rattle.vb_event.specs.declared.answer.FolderAnswer.TheVariants as answers
 use Rattle.vb_event.specs.declared.event.FolderEvent.TheVariants as events
 use Rattle.vb_event.specs.Core.{Core, Given, BringToRest}

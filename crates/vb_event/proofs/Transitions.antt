@@ -22,8 +22,8 @@ use Rattle.vb_event.specs.declared.event.FolderEvent.{FolderEvent}
 use Rattle.vb_event.specs.declared.event.FolderEvent.TheVariants as events
 use Rattle.vb_event.specs.declared.answer.FolderAnswer.{FolderAnswer}
 use Rattle.vb_event.specs.declared.answer.FolderAnswer.TheVariants as answers
-use Rattle.vb_event.specs.declared.answer.CommitStep.{CommitStep}
-use Rattle.vb_event.specs.declared.answer.CommitStep.TheVariants as commits
+use Rattle.vb_journal.specs.declared.commit_stage.CommitStep.{CommitStep}
+use Rattle.vb_journal.specs.declared.commit_stage.CommitStep.TheVariants as commits
 use Rattle.vb_event.specs.declared.answer.FaultKind.{FaultKind}
 use Rattle.vb_event.specs.declared.answer.FaultKind.TheVariants.{Damaged, Disk, Link, Memory}
 use Rattle.vb_event.specs.Core.{Core, Given, BringToRest, IsGiven, is_busy, is_rested}

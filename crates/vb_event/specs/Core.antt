@@ -6,8 +6,8 @@ use Rattle.vb_hist.specs.declared.entry.Entry.{Entry}
 use Rattle.vb_hist.specs.declared.entry.Stage.{Stage}
 use Rattle.vb_hist.specs.declared.entry.Stage.TheVariants.{Rested, Written, Committed}
 use Rattle.vb_cloud.specs.Machine.{CloudState}
-use Rattle.vb_event.specs.declared.answer.CommitStep.{CommitStep}
-use Rattle.vb_event.specs.declared.answer.CommitStep.TheVariants as commits
+use Rattle.vb_journal.specs.declared.commit_stage.CommitStep.{CommitStep}
+use Rattle.vb_journal.specs.declared.commit_stage.CommitStep.TheVariants as commits
 
 -- the folder beside its devices: its limits, its history, the last epoch, the sequence of the last head (0 until there is
 -- one), the epoch that was last published, the epoch of the view that stands, how far its commit is, the live tree, the

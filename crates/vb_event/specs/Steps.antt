@@ -16,8 +16,8 @@ use Rattle.vb_event.specs.declared.event.FolderEvent.{FolderEvent}
 use Rattle.vb_event.specs.declared.event.FolderEvent.TheVariants as events
 use Rattle.vb_event.specs.declared.answer.FolderAnswer.{FolderAnswer}
 use Rattle.vb_event.specs.declared.answer.FolderAnswer.TheVariants as answers
-use Rattle.vb_event.specs.declared.answer.CommitStep.{CommitStep}
-use Rattle.vb_event.specs.declared.answer.CommitStep.TheVariants as commits
+use Rattle.vb_journal.specs.declared.commit_stage.CommitStep.{CommitStep}
+use Rattle.vb_journal.specs.declared.commit_stage.CommitStep.TheVariants as commits
 use Rattle.vb_event.specs.declared.answer.FaultKind.TheVariants.{Disk, Link, Memory}
 use Rattle.vb_event.specs.Core.{Core, FolderView, Given, IsGiven, is_rested}
 use Rattle.vb_event.specs.Answers.{MayAnswer, due_view, is_last_due}

@@ -1,21 +1,7 @@
 // What an event answers.
+use vb_journal::CommitStep;
 use vb_publish::UploadStep;
 use vb_tree::Reply;
-
-/// What a step of a commit did.
-#[derive(Clone, Copy, Debug, PartialEq, Eq)]
-pub enum CommitStep {
-    /// It wrote a place.
-    Wrote,
-    /// It made a sync.
-    Synced,
-    /// From now on no crash loses the view.
-    Committed,
-    /// The commit is over.
-    Rested,
-    /// No commit is on.
-    Idle,
-}
 
 /// What an event may fail by.
 #[derive(Clone, Copy, Debug, PartialEq, Eq)]

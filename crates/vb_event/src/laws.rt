@@ -14,8 +14,8 @@ ghost use Rattle.vb_event.specs.Core.{Core, FolderView, Given, BringToRest, IsGi
 ghost use Rattle.vb_event.specs.Promise.{KeepsPromise};
 ghost use Rattle.vb_event.specs.Sound.{HasSoundCloud, HasSoundHistory, IsDueMessage, IsSound, MayRecover, Recovers, core_at_start, with_counts};
 ghost use Rattle.vb_event.specs.Steps.{Happening, MayBecome, Runs, after_answers, core_after};
-ghost use Rattle.vb_event.specs.declared.answer.CommitStep.{CommitStep};
-ghost use Rattle.vb_event.specs.declared.answer.CommitStep.TheVariants as commits;
+ghost use Rattle.vb_journal.specs.declared.commit_stage.CommitStep.{CommitStep};
+ghost use Rattle.vb_journal.specs.declared.commit_stage.CommitStep.TheVariants as commits;
 ghost use Rattle.vb_event.specs.declared.answer.FaultKind.TheVariants as faults;
 ghost use Rattle.vb_event.specs.declared.answer.FolderAnswer.{FolderAnswer};
 ghost use Rattle.vb_event.specs.declared.answer.FolderAnswer.TheVariants as answers;

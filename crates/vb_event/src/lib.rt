@@ -5,7 +5,7 @@ mod answer;
 mod event;
 mod laws;
 
-pub use answer::{CommitStep, FaultKind, FolderAnswer};
+pub use answer::{FaultKind, FolderAnswer};
 pub use event::FolderEvent;
 pub use laws::{
     answers_lead_to_rest, counts_of_faults_may_be_lower, early_epochs_are_never_spent,
