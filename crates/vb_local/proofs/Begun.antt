@@ -119,6 +119,7 @@ begun-starts v stands live frozen is begins = subst (λ (a : ActiveState). Start
   view = refl;
   resting = tt;
   standing = refl;
+  frozen = subst (λ (a : ActiveState). IsBegun stands a frozen) begins.live_is begins.frozen_is;
   shows = λ d tree rests has. record {
     live = begun-tree v d tree has;
     phase = record {
@@ -200,7 +201,7 @@ pub freeze-freezes : (s : LocalState) (frozen : FrozenState) (epoch : ℕ) → A
 freeze-freezes s frozen epoch tied resting is slots = record {
   frozen = frozen;
   waits = refl;
-  pages = is.pages;
+  of = is;
   shows = freeze-shows s frozen epoch tied resting is slots;
 }
 

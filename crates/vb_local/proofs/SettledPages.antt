@@ -1,5 +1,5 @@
 -- One page that is settled in the live and in the frozen view, and all of them.
-use Rattle.std.proofs.Common.{◌≡◌, ℕ, zero, suc, ◌≤◌, ◌<◌, Bool, true, false, cond, ◌&&◌, List, [], ◌∷◌, length, ◌+◌, set, slice_get, Option, Some, None, IsSome, unwrap_or, refl, sym, ap, subst, ◌∙◌, arith, inl, inr}
+use Rattle.std.proofs.Common.{◌≡◌, ℕ, zero, suc, ◌≤◌, ◌<◌, Bool, true, false, cond, ◌&&◌, List, [], ◌∷◌, ◌++◌, length, ◌+◌, set, slice_get, Option, Some, None, IsSome, unwrap_or, refl, sym, ap, subst, ◌∙◌, arith, inl, inr}
 use Rattle.std.specs.Prelude.{◌==◌}
 use Rattle.std.specs.Option.{option_map}
 use Rattle.std.specs.Str.{bytes_eq}
@@ -24,7 +24,7 @@ use Rattle.vb_frozen.specs.declared.entry.FrozenEntry.{FrozenEntry}
 use Rattle.vb_frozen.specs.Orders.{refs_in, with_reference}
 use Rattle.vb_frozen.specs.Views.{HasFrozenTree}
 use Rattle.vb_frozen.proofs.Settled as frozen_views
-use Rattle.vb_local.specs.AtRest.{has_bytes, left_beside, unsettled, CanSettle, HasKept, KeepsFrozen, KeepsLive, SettlesAll, SettlesFrozen, SettlesLive, Settling}
+use Rattle.vb_local.specs.AtRest.{has_bytes, left_beside, unsettled, with_references, CanSettle, HasKept, HasNewRefs, KeepsFrozen, KeepsLive, NewRef, SettlesAll, SettlesFrozen, SettlesLive, Settling}
 use Rattle.vb_local.specs.Ties.{ref_in, FrozenState, HaveDigests, KeepsEntries}
 use Rattle.vb_local.proofs.Settled.{which, IsThere, settled-digests, settled-entries, settled-frozen, settled-live, settled-tree}
 
@@ -131,6 +131,7 @@ frozen-settles nodes slot page reference old new entries some at made forgets fe
     digests = λ digests. settled-digests nodes old new slot page digests forgets;
     entries = λ keeps. settled-entries old new slot page reference keeps made forgets;
     kept = λ d has s k bytes r kept there. has s k bytes r (still old.pages new.pages slot page s k bytes forgets kept) there;
+    order = (record { slot = slot; page = page; reference = reference } ∷ [], made);
     tree = λ d tree has is.
         let kept = some-bytes (kept_page old.pages slot page) some in
         subst (λ (es : List FrozenEntry). HasFrozenTree es new.pages d tree) (sym made)
@@ -139,6 +140,14 @@ frozen-settles nodes slot page reference old new entries some at made forgets fe
   forgets = forgets;
   fewer = omega (arith, fewer);
 }
+
+-- new references, and new ones after them
+later-refs : (refs more : List NewRef) (order : List FrozenEntry) → with_references (refs ++ more) order ≡ with_references more (with_references refs order)
+later-refs [] more order = refl
+later-refs (r ∷ rs) more order = later-refs rs more (with_reference r.slot r.page r.reference order)
+
+new-refs : (old mid new : List FrozenEntry) → HasNewRefs old mid → HasNewRefs mid new → HasNewRefs old new
+new-refs old mid new first next = (first.0 ++ next.0, next.1 ∙ ap (with_references next.0) first.1 ∙ sym (later-refs first.0 next.0 old))
 
 -- ---- both views
 
@@ -168,7 +177,7 @@ page-settles nodes slot page old new frozen settled some live one = record {
 pub settling-begins : (nodes : List (Option Held)) (live : ActiveState) (frozen : FrozenState) → Settling nodes live frozen live frozen
 settling-begins nodes live frozen = record {
   live = record { limits = refl; within = λ keeps. keeps; relies = λ relies. relies; tree = λ d tree has is. is };
-  kept = record { relies = λ relies. relies; digests = λ digests. digests; entries = λ entries. entries; kept = λ d has. has; tree = λ d tree has is. is };
+  kept = record { relies = λ relies. relies; digests = λ digests. digests; entries = λ entries. entries; kept = λ d has. has; order = ([], refl); tree = λ d tree has is. is };
   pages = λ slot page. refl;
 }
 
@@ -186,6 +195,7 @@ settling-goes nodes old one two frozen then last first next = record {
     digests = λ digests. next.kept.digests (first.kept.digests digests);
     entries = λ entries. next.kept.entries (first.kept.entries entries);
     kept = λ d has. next.kept.kept d (first.kept.kept d has);
+    order = new-refs _ _ _ first.kept.order next.kept.order;
     tree = λ d tree has is. next.kept.tree d tree (first.kept.kept d has) (first.kept.tree d tree has is);
   };
   pages = λ slot page. next.pages slot page ∙ first.pages slot page;

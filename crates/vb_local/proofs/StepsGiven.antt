@@ -353,6 +353,7 @@ rested-steps live v frozen way new head standing after next phase before then re
     index = rests.index;
     head = λ epoch at. rests.head_is ∙ last ∙ (let same : way.epoch ≡ epoch = cc at in ap (closed_head v.head) same);
     pages = rests.settles.pages;
+    order = rests.settles.kept.order;
   };
   called = called-once way new given before then result tied.phase.going steps;
   seen = steps.seen;

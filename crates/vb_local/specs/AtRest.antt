@@ -1,10 +1,12 @@
 -- What a commit that rests leaves of the views in memory: each page that it wrote is settled at its new reference.
-use Rattle.std.specs.Prelude.{◌≡◌, ℕ, ◌==◌, ◌&&◌, ◌<◌, Bool, false, if◌then◌else◌, is_none, List, length, Option, Some, None}
+use Rattle.std.specs.Prelude.{◌≡◌, ℕ, ◌==◌, ◌&&◌, ◌<◌, Bool, false, if◌then◌else◌, is_none, List, [], ◌∷◌, length, Option, Some, None}
 use Rattle.std.specs.Str.{bytes_eq}
 use Rattle.vb_active.specs.Performs.{HasTreeOn}
 use Rattle.vb_active.specs.Views.{ActiveState, ref_at}
 use Rattle.vb_block.specs.declared.digest.Ref.{Ref}
 use Rattle.vb_disk.specs.States.{DiskState}
+use Rattle.vb_frozen.specs.declared.entry.FrozenEntry.{FrozenEntry}
+use Rattle.vb_frozen.specs.Orders.{with_reference}
 use Rattle.vb_frozen.specs.Views.{HasFrozenTree}
 use Rattle.vb_index.specs.declared.held.Held.{Held}
 use Rattle.vb_head.specs.declared.head.Head.{Head}
@@ -40,6 +42,21 @@ pub record SettlesPages (old : ActiveState) (frozen : FrozenState) (new : Active
 
 -- ---- what settling leaves
 
+-- a page of a slot with a new reference
+pub record NewRef : Type 0 where
+  pub slot : ℕ
+  pub page : ℕ
+  pub reference : Ref
+
+-- an order with these references, one after the other
+abbrev pub with_references : List NewRef → List FrozenEntry → List FrozenEntry
+with_references [] order = order
+with_references (r ∷ rs) order = with_references rs (with_reference r.slot r.page r.reference order)
+
+-- one order is another with new references
+abbrev pub HasNewRefs : List FrozenEntry → List FrozenEntry → Type 0
+HasNewRefs old new = (refs : List NewRef) × (new ≡ with_references refs old)
+
 -- views rely on nodes, which have each page that the frozen one keeps in memory
 pub record CanSettle (nodes : List (Option Held)) (live : ActiveState) (frozen : FrozenState) : Type 0 where
   pub relies : LiveRelies nodes live
@@ -60,12 +77,13 @@ pub record KeepsLive (nodes : List (Option Held)) (frozen : FrozenState) (old ne
   pub relies : LiveRelies nodes old → LiveRelies nodes new
   pub tree : (d : DiskState) (tree : List TreeEntry) → HasKept d nodes frozen → HasTreeOn d old tree → HasTreeOn d new tree
 
--- the same of a frozen view
+-- the same of a frozen view, which has new references at most
 pub record KeepsFrozen (nodes : List (Option Held)) (old new : FrozenState) : Type 0 where
   pub relies : FrozenRelies nodes old → FrozenRelies nodes new
   pub digests : HaveDigests nodes old → HaveDigests nodes new
   pub entries : KeepsEntries old → KeepsEntries new
   pub kept : (d : DiskState) → HasKept d nodes old → HasKept d nodes new
+  pub order : HasNewRefs old.order new.order
   pub tree : (d : DiskState) (tree : List TreeEntry) → HasKept d nodes old → HasFrozenTree old.order old.pages d tree
       → HasFrozenTree new.order new.pages d tree
 

@@ -27,7 +27,8 @@ use Rattle.vb_tree.specs.Operations.{reply_of, tree_after}
 use Rattle.vb_views.specs.AtRest.{IsAtRestFor}
 use Rattle.vb_views.specs.Reads.{pages_by}
 use Rattle.vb_local.specs.Answers.{GivesFirst, answers_left}
-use Rattle.vb_local.specs.AtRest.{SettlesPages}
+use Rattle.vb_local.specs.AtRest.{HasNewRefs, SettlesPages}
+use Rattle.vb_local.specs.Phases.{IsBegun, IsFrozenOf}
 use Rattle.vb_local.specs.Shown.{LocalTrees, ShowsNext, ShowsOn, trees_after}
 use Rattle.vb_local.specs.States.{LocalState, Rests, Waits, epoch_in, frozen_in, is_on, IsResting}
 use Rattle.vb_local.specs.Ties.{FrozenState}
@@ -42,13 +43,15 @@ one_tree tree = record { active = tree; frozen = tree; committed = tree }
 abbrev pub standing_of : Bool → ViewState → Option ℕ
 standing_of stands v = if stands then Some v.head.epoch else None
 
--- a folder that begins on a view: its live view is that of the committed nodes, no page is in memory, and no commit is
--- on; and a disk that is at rest for the view shows it with the view's tree
+-- a folder that begins on a view: its live view is that of the committed nodes, no page is in memory, no commit is on, and
+-- the frozen view is that of the live one where it stands; and a disk that is at rest for the view shows it with the view's
+-- tree
 pub record Starts (v : ViewState) (stands : Bool) (s : LocalState) : Type 0 where
   pub live : s.live ≡ record { index = v.index; pages = [] }
   pub view : s.view ≡ v
   pub resting : IsResting s.phase
   pub standing : s.standing ≡ standing_of stands v
+  pub frozen : IsBegun stands s.live (frozen_in s.phase)
   pub shows : (d : DiskState) (tree : List TreeEntry) → IsAtRestFor v.head v.index d
       → HasTree v.index.nodes (pages_by (first_candidates d) v.index.nodes) tree → ShowsOn d s (one_tree tree)
 
@@ -69,12 +72,12 @@ pub record Calls (old new : LocalState) (op : Op) (told : Option DiskState) (res
 
 -- ---- freezes
 
--- the live view is frozen at an epoch: it has that view's pages in memory and its tree, the live and the committed view
--- stay, and the answers that are left are those of its plan
+-- the live view is frozen at an epoch: the frozen one has its entries in path order, its pages in memory and its tree, and
+-- the live and the committed view stay
 pub record Freezes (old : LocalState) (epoch : ℕ) (new : LocalState) : Type 0 where
   pub frozen : FrozenState
   pub waits : new ≡ record old { phase = Waits frozen epoch; standing = Some epoch }
-  pub pages : frozen.pages ≡ old.live.pages
+  pub of : IsFrozenOf old.live frozen
   pub shows : (d : DiskState) (t : LocalTrees) → ShowsOn d old t → ShowsOn d new (record t { frozen = t.active })
 
 -- no view stands any more; a commit that is on goes on
@@ -105,6 +108,7 @@ pub record SettlesViews (old new : LocalState) : Type 0 where
   pub index : old.view.next ≡ Some new.view.index
   pub head : (epoch : ℕ) → epoch_in old.phase ≡ Some epoch → new.view.head ≡ closed_head old.view.head epoch
   pub pages : SettlesPages old.live frozen new.live settled
+  pub order : HasNewRefs frozen.order settled.order
 
 -- a step gives the first of the answers that are left, by one call of the disk; an error leaves all of them. For want of
 -- memory no write was made.
