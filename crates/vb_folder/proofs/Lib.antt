@@ -1,0 +1,10 @@
+pub mod PlanAnswers
+pub mod Given
+pub mod Roomed
+pub mod Called
+pub mod FreezesMade
+pub mod Stepped
+pub mod StepsMade
+pub mod DropsMade
+pub mod SoundMade
+pub mod ViewsMade

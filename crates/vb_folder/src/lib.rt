@@ -1,0 +1,17 @@
+// The folder without its devices: its views on their disk, its history, and what it knows of its cloud. Each call is one event.
+#![tactic(auto)]
+
+mod calls;
+mod commits;
+mod freezes;
+mod laws;
+mod ledger;
+mod refusals;
+mod starting;
+
+pub use laws::{made_events_keep_folders_sound, sound_folders_recover_their_history};
+pub use ledger::Ledger;
+pub use refusals::{FreezeError, NoView};
+
+#[cfg(test)]
+mod tests;
