@@ -1,5 +1,5 @@
 -- What each call of a folder makes of it: it answers one event.
-use Rattle.std.specs.Prelude.{◌≡◌, ℕ, ◌++◌, Option, Some, Result, Ok, Err}
+use Rattle.std.specs.Prelude.{◌≡◌, ◌⊎◌, ℕ, ◌++◌, Option, Some, Result, Ok, Err}
 use Rattle.vb_disk.specs.States.{DiskState}
 use Rattle.vb_disk.specs.declared.disk_error.DiskError.{DiskError}
 use Rattle.vb_disk.specs.declared.disk_error.DiskError.TheVariants as disks
@@ -16,9 +16,11 @@ use Rattle.vb_hist.specs.declared.entry.Stage.{Stage}
 use Rattle.vb_hist.specs.declared.entry.Stage.TheVariants as stages
 use Rattle.vb_journal.specs.declared.commit_stage.CommitStep.{CommitStep}
 use Rattle.vb_journal.specs.declared.commit_stage.CommitStep.TheVariants.{Wrote, Synced, Committed, Rested, Idle}
+use Rattle.vb_local.specs.Events.{StepsOn}
 use Rattle.vb_local.specs.Shown.{LocalTrees, ShowsOn}
 use Rattle.vb_pages.specs.declared.page_error.PageError.{PageError}
 use Rattle.vb_pages.specs.declared.page_error.PageError.TheVariants as pages
+use Rattle.vb_steps.specs.Disks.{DiskView}
 use Rattle.vb_tree.specs.Operations.{tree_after_reply}
 use Rattle.vb_tree.specs.declared.reply.Reply.{Reply}
 use Rattle.vb_folder.specs.declared.refusals.FreezeError.{FreezeError}
@@ -97,3 +99,18 @@ pub record Makes (event : FolderEvent) (answer : FolderAnswer) (old new : Ledger
   pub is_given : IsGiven given
   pub pushed : (t : LocalTrees) → new.history.entries ≡ old.history.entries ++ pushed_by given (core_of old t) event answer
   pub shown : (d : DiskState) (t : LocalTrees) → before ≡ Some d → ShowsOn d old.local t → ShowsAfter given event answer old new t after
+
+-- ---- what else changes
+
+-- an operation changes the live view and the history alone
+abbrev pub IsCalled : LedgerState → LedgerState → Type 0
+IsCalled old new = new ≡ record old { local = record old.local { live = new.local.live }; history = new.history }
+
+-- nothing was done
+pub record StaysStill (old new : LedgerState) (before after : DiskView) : Type 0 where
+  pub folder : new ≡ old
+  pub disk : after ≡ before
+
+-- a commit step is one of the views, or nothing was done, at rest or for want of memory
+abbrev pub StepsOnce : LedgerState → LedgerState → DiskView → DiskView → Result CommitStep DiskError → Type 0
+StepsOnce old new before after result = StepsOn old.local new.local before after result ⊎ StaysStill old new before after

@@ -5,7 +5,7 @@ ghost use Rattle.vb_disk.specs.States.{DiskState};
 ghost use Rattle.vb_cause.specs.Causes.{HasCause, UsesFailures};
 ghost use Rattle.vb_event.specs.declared.answer.FolderAnswer.TheVariants as answers;
 ghost use Rattle.vb_event.specs.declared.event.FolderEvent.TheVariants as events;
-ghost use Rattle.vb_folder.specs.Events.{call_answer, Makes};
+ghost use Rattle.vb_folder.specs.Events.{call_answer, IsCalled, Makes};
 ghost use Rattle.vb_tree.specs.Operations.{IsInRange};
 
 use crate::Ledger;
@@ -28,6 +28,7 @@ impl Ledger {
         requires range { IsInRange op }
         requires blocks { self.old.local.view.head.blocks ≤ D.seen disk.old }
         ensures makes { Makes (events.Call writer op) (call_answer result) self.old self.new (D.told disk.old) (D.told disk.new) }
+        ensures others { IsCalled self.old self.new }
         ensures told { D.told disk.new ≡ D.told disk.old }
         ensures seen { D.seen disk.new ≡ D.seen disk.old }
         ensures cause { HasCause PageError.DiskFault (D.faults disk.old) (D.faults disk.new) result }
@@ -60,6 +61,7 @@ impl Ledger {
         requires blocks { self.old.local.view.head.blocks ≤ D.seen disk.old }
         requires spare { 0 < self.old.history.spare }
         ensures makes { Makes (events.Call writer op) (call_answer result) self.old self.new (D.told disk.old) (D.told disk.new) }
+        ensures others { IsCalled self.old self.new }
         ensures told { D.told disk.new ≡ D.told disk.old }
         ensures seen { D.seen disk.new ≡ D.seen disk.old }
         ensures cause { HasCause PageError.DiskFault (D.faults disk.old) (D.faults disk.new) result }
@@ -87,6 +89,7 @@ impl Ledger {
         requires { 0 < self.old.history.spare }
         ensures makes { (told : Option DiskState) → Makes (events.End writer) answers.Ended self.old self.new told told }
         ensures spare { self.new.history.spare ≡ self.old.history.spare - 1 }
+        ensures others { self.new ≡ record self.old { history = self.new.history } }
     {
         self.history.push(Entry::End { writer });
     }

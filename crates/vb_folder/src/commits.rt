@@ -3,7 +3,8 @@ ghost use Rattle.std.specs.Prelude.{◌≡◌, ◌-◌, ◌++◌, ◌<◌, ◌�
 ghost use Rattle.vb_cause.specs.Causes.{HasCause, UsesFailures};
 ghost use Rattle.vb_event.specs.Steps.{pushed_by_commit};
 ghost use Rattle.vb_event.specs.declared.event.FolderEvent.TheVariants as events;
-ghost use Rattle.vb_folder.specs.Events.{stage_after, step_answer, Makes};
+ghost use Rattle.vb_folder.specs.Events.{stage_after, step_answer, Makes, StepsOnce};
+ghost use Rattle.vb_steps.specs.Disks.{disk_view};
 ghost use Rattle.vb_hist.specs.declared.entry.Stage.{Stage};
 ghost use Rattle.vb_local.specs.Answers.{answers_left, GivesFirst};
 
@@ -26,6 +27,9 @@ impl Ledger {
         requires blocks { self.old.local.view.head.blocks ≤ D.seen disk.old }
         ensures makes { Makes events.CommitStep (step_answer result) self.old self.new (D.told disk.old) (D.told disk.new) }
         ensures answer { GivesFirst (answers_left self.old.local) (answers_left self.new.local) result }
+        ensures steps { StepsOnce self.old self.new
+            (disk_view (D.told disk.old) (D.seen disk.old) (D.faults disk.old) (D.failures_left disk.old) (D.calls disk.old))
+            (disk_view (D.told disk.new) (D.seen disk.new) (D.faults disk.new) (D.failures_left disk.new) (D.calls disk.new)) result }
         ensures seen { D.seen disk.new ≡ D.seen disk.old }
         ensures cause { HasCause DiskError.Failed (D.faults disk.old) (D.faults disk.new) result }
         ensures left { UsesFailures DiskError.Failed (D.failures_left disk.old) (D.failures_left disk.new) result }

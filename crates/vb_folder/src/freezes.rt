@@ -1,5 +1,6 @@
 // Freezes of the folder, and what ends a view.
-ghost use Rattle.std.specs.Prelude.{◌≡◌, ◌-◌, ◌<◌, false, Err, Option, length};
+ghost use Rattle.std.specs.Prelude.{◌≡◌, ◌-◌, ◌<◌, false, Err, IfOk, OnErr, Option, length};
+ghost use Rattle.vb_local.specs.Events.{Drops, Freezes};
 ghost use Rattle.vb_disk.specs.States.{DiskState};
 ghost use Rattle.vb_event.specs.Steps.{pushed_by_drop, pushed_by_freeze};
 ghost use Rattle.vb_event.specs.declared.event.FolderEvent.TheVariants as events;
@@ -27,6 +28,8 @@ impl Ledger {
         ensures makes { (told : Option DiskState) → Makes (events.Freeze by) (frozen_answer result) self.old self.new told told }
         ensures spare { self.new.history.spare ≡ self.old.history.spare - length (pushed_by_freeze by (frozen_answer result)) }
         ensures memory { result ≡ Err FreezeError.Memory → self.new ≡ self.old }
+        ensures views { IfOk result (λ epoch. Freezes self.old.local epoch self.new.local) }
+        ensures kept { OnErr result (self.new.local ≡ self.old.local) }
     {
         if self.is_busy() {
             let epoch = self.epoch;
@@ -71,6 +74,8 @@ impl Ledger {
         ensures makes { (told : Option DiskState) → Makes (events.Freeze by) (frozen_answer result) self.old self.new told told }
         ensures spare { self.new.history.spare ≡ self.old.history.spare - length (pushed_by_freeze by (frozen_answer result)) }
         ensures memory { result ≡ Err FreezeError.Memory → self.new ≡ self.old }
+        ensures views { IfOk result (λ epoch. Freezes self.old.local epoch self.new.local) }
+        ensures kept { OnErr result (self.new.local ≡ self.old.local) }
         ensures freezes { (e : FreezeError) → result ≡ Err e → e ≡ FreezeError.Memory }
     {
         let epoch = self.epoch + 1;
@@ -91,6 +96,8 @@ impl Ledger {
         requires { 0 < self.old.history.spare }
         ensures makes { (told : Option DiskState) → Makes events.DropView (dropped_answer result) self.old self.new told told }
         ensures spare { self.new.history.spare ≡ self.old.history.spare - length (pushed_by_drop (dropped_answer result)) }
+        ensures views { IfOk result (λ epoch. Drops self.old.local self.new.local) }
+        ensures none { OnErr result (self.new ≡ self.old) }
     {
         let Some(epoch) = self.local.standing() else {
             return Err(NoView);
