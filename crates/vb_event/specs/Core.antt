@@ -50,9 +50,9 @@ greatest_epoch = 9223372036854775807
 abbrev pub sequences_end : ℕ
 sequences_end = 9223372036854775808
 
--- the epoch below which a folder that keeps pace is never spent, 2^62
+-- the epoch below which a folder that keeps pace is never spent, 2^62 - 1
 abbrev pub epochs_end : ℕ
-epochs_end = 4611686018427387904
+epochs_end = 4611686018427387903
 
 -- whether no commit is on
 abbrev pub is_rested : Stage → Bool
@@ -70,9 +70,9 @@ sequences_left Rested = 0
 sequences_left Written = 2
 sequences_left Committed = 2
 
--- the folder took at most two sequences for each of its epochs, those of the commit that is on among them
+-- the folder took at most two sequences for its format, and two for each of its epochs, those of the commit that is on among them
 abbrev pub KeepsPace : Core → Type 0
-KeepsPace core = core.sequence + sequences_left core.stage ≤ 2 * core.epoch
+KeepsPace core = core.sequence + sequences_left core.stage ≤ 2 * core.epoch + 2
 
 -- these answers bring a commit from a stage to its rest: it is committed once, and then rests once, with the last of them
 abbrev pub BringToRest : Stage → List CommitStep → Type 0

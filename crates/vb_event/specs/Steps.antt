@@ -18,7 +18,7 @@ use Rattle.vb_event.specs.declared.answer.FolderAnswer.{FolderAnswer}
 use Rattle.vb_event.specs.declared.answer.FolderAnswer.TheVariants as answers
 use Rattle.vb_journal.specs.declared.commit_stage.CommitStep.{CommitStep}
 use Rattle.vb_journal.specs.declared.commit_stage.CommitStep.TheVariants as commits
-use Rattle.vb_event.specs.declared.answer.FaultKind.TheVariants.{Disk, Link, Memory}
+use Rattle.vb_event.specs.declared.answer.FaultKind.TheVariants.{Disk, Link}
 use Rattle.vb_event.specs.Core.{Core, FolderView, Given, IsGiven, is_rested}
 use Rattle.vb_event.specs.Answers.{MayAnswer, due_view, is_last_due}
 
@@ -213,9 +213,12 @@ MayBecome given core (events.End writer) answer before after = after ≡ before
 
 -- ---- one event
 
--- room for one entry was made, unless no memory was found
+-- room for one entry was made, unless nothing can be pushed: it stays as it was at each fault, at a commit step where none is
+-- left, and at an upload step where no view is due. The doubt that a fault leaves takes of the room that was there, where there was any.
 abbrev pub room_after : ℕ → FolderAnswer → ℕ
-room_after spare (answers.Fault Memory) = spare
+room_after spare (answers.Fault kind) = spare
+room_after spare (answers.CommitStepped commits.Idle) = spare
+room_after spare (answers.UploadStepped uploads.Nothing) = spare
 room_after spare other = max spare 1
 
 -- the counts of faults never fall, and a fault of a device comes only where its count rose

@@ -125,8 +125,8 @@ pub fn answers_lead_to_rest()
         → ((after_answers given core core.left).stage ≡ Rested) × ((after_answers given core core.left).left ≡ []) }
 {}
 
-/// A folder that took at most two sequences for each of its epochs goes on so, and at an epoch below 2^62 it is not spent: so
-/// a freeze there is refused by a view that stands or a commit that is on alone. It does nothing.
+/// A folder that took at most two sequences for its format and two for each of its epochs goes on so, and at an epoch below
+/// 2^62 - 1 it is not spent: so a freeze there is refused by a view that stands or a commit that is on alone. It does nothing.
 pub fn early_epochs_are_never_spent()
     ensures pace { (core : Core) (given : Given) (event : FolderEvent) (answer : FolderAnswer) → MayAnswer given core event answer
         → BringToRest core.stage core.left → KeepsPace core → KeepsPace (core_after given core event answer) }
