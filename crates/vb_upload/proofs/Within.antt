@@ -14,7 +14,7 @@ use Rattle.vb_upload.specs.Cursors.{counts_of, sent_at, StandsIn}
 use Rattle.vb_upload.proofs.Behind.{count-by, some-entry, total-within}
 use Rattle.vb_upload.proofs.Positions.{counts-same}
 
-total-front : (counts : List ℕ) (i : ℕ) → total_of (take i counts) ≤ total_of counts
+pub total-front : (counts : List ℕ) (i : ℕ) → total_of (take i counts) ≤ total_of counts
 total-front counts zero = omega arith
 total-front [] (suc i) = omega arith
 total-front (c ∷ cs) (suc i) = (let rest = total-front cs i in omega arith)

@@ -1,5 +1,5 @@
 -- What a step of an upload answers and leaves.
-use Rattle.std.specs.Prelude.{◌≡◌, ◌⊎◌, ℕ, ◌<◌, List, slice_get, Option, Some, None, IsSome, Result, Ok, Err, IsErr, IsErrOf, option_and_then}
+use Rattle.std.specs.Prelude.{◌≡◌, ◌⊎◌, ℕ, ◌+◌, ◌<◌, nat_le, Bool, List, slice_get, Option, Some, None, IsSome, Result, Ok, Err, IsErr, IsErrOf, option_and_then}
 use Rattle.sha2.specs.Sha256.{sha256}
 use Rattle.vb_block.specs.declared.digest.Ref.{Ref}
 use Rattle.vb_cause.specs.Faults.{counted}
@@ -24,7 +24,7 @@ use Rattle.vb_upload.specs.declared.cursor.Cursor.{Cursor}
 use Rattle.vb_upload.specs.declared.cursor.Cursor.TheVariants.{Begin, Entry, Page, Sealed}
 use Rattle.vb_upload.specs.declared.upload.Upload.{Upload}
 use Rattle.vb_upload.specs.Cursors.{counts_of, sent_at, IsBehind, IsLast, IsUploadOf}
-use Rattle.vb_publish.specs.Plans.{upload_plan}
+use Rattle.vb_publish.specs.Plans.{plan_length, upload_plan}
 
 -- the epoch that an upload publishes
 abbrev pub epoch_of : Upload → ℕ
@@ -37,6 +37,10 @@ cursor_of u = u.cursor
 -- how many messages of a frozen view were sent
 abbrev pub sent_of : List FrozenEntry → Upload → ℕ
 sent_of order u = sent_at (counts_of order) u.cursor
+
+-- whether the message at a cursor is the last of its plan
+abbrev pub is_last_at : List FrozenEntry → Cursor → Bool
+is_last_at order cursor = nat_le (plan_length (counts_of order)) (sent_at (counts_of order) cursor + 1)
 
 -- this message is the one at a place in the plan of an epoch and a tree, whatever is published
 abbrev pub IsPlanned : ℕ → List TreeEntry → ℕ → Msg → Type 0

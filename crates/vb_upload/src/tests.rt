@@ -200,6 +200,40 @@ fn a_view_of_three_pages_is_published_in_eight_messages(rt: HostRuntime) -> Resu
     Ok(())
 }
 
+// Whether the next message is the last, and None where that may not be asked.
+fn is_last(frozen: &Frozen, upload: &Upload) -> Option<bool> {
+    if all_can_be_sent(frozen, u32::MAX) && stands(frozen, upload.cursor()) {
+        Some(upload.is_last(frozen))
+    } else {
+        None
+    }
+}
+
+#[test]
+fn the_publication_alone_is_the_last_message(rt: HostRuntime) -> Result<(), Fail> {
+    let alloc = rt.alloc();
+    let mut index = Index::new(alloc, LIMITS)?;
+    add(alloc, &mut index, b"/a", Kind::File, 0).ok_or("a file")?;
+    let frozen = Frozen::of(alloc, &index, &PageTable::new(alloc))?;
+    let mut disk = MemoryDisk::new(alloc, 64)?;
+    let mut link = MemoryCloud::new(alloc);
+    let mut upload = Upload::start(1);
+    for nth in 0..5u32 {
+        assert_eq!(rt; is_last(&frozen, &upload), Some(nth == 4));
+        let due = if nth == 4 {
+            UploadStep::Published { epoch: 1 }
+        } else {
+            UploadStep::Sent
+        };
+        assert_eq!(rt;
+            step(alloc, &frozen, &mut upload, &mut disk, &mut link),
+            Some(Ok(due))
+        );
+    }
+    assert_eq!(rt; is_last(&frozen, &upload), Some(false));
+    Ok(())
+}
+
 // What came of an upload of an empty file whose k-th link call fails: how often Sent came before the fault, how often after
 // it, and whether the view was published then.
 fn with_failure(alloc: Global, frozen: &Frozen, nth: u32, after: bool) -> Option<(u32, u32, bool)> {

@@ -8,7 +8,7 @@ ghost use Rattle.vb_frozen.specs.Views.{IsOnDisk};
 ghost use Rattle.vb_link.specs.Links.{KeepsFailures};
 ghost use Rattle.vb_steps.specs.Steps.{CallsOnce};
 ghost use Rattle.vb_upload.specs.Cursors.{AllCanBeSent, StandsIn};
-ghost use Rattle.vb_upload.specs.Steps.{epoch_of, cursor_of, due_ref, AnswersUpload, GoesOut, GoesTo, IsOfLink, UploadSteps};
+ghost use Rattle.vb_upload.specs.Steps.{epoch_of, cursor_of, due_ref, is_last_at, AnswersUpload, GoesOut, GoesTo, IsOfLink, UploadSteps};
 
 use crate::message::next_message;
 use crate::{Cursor, UploadError, UploadStep};
@@ -35,6 +35,19 @@ impl Upload {
         Upload {
             epoch: Epoch { number: epoch },
             cursor: Cursor::Begin,
+        }
+    }
+
+    /// Whether the next message of the plan is its last, the publication. It takes the same time whatever the view has.
+    #[tactic(auto, using(crate::proofs::Lasts::lasts))]
+    pub fn is_last(&self, frozen: &Frozen) -> bool
+        requires sendable { AllCanBeSent frozen.now.order }
+        requires stands { StandsIn frozen.now.order (cursor_of self.now) }
+        ensures { result ≡ is_last_at frozen.now.order (cursor_of self.now) }
+    {
+        match self.cursor {
+            Cursor::Entry { i } => i >= frozen.count(),
+            Cursor::Begin | Cursor::Page { .. } | Cursor::Sealed { .. } => false,
         }
     }
 
