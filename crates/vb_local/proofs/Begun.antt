@@ -36,6 +36,7 @@ use Rattle.vb_local.specs.States.{dropped_in, epoch_in, IsResting, LocalState, P
 use Rattle.vb_local.specs.Ties.{ref_in, FrozenState, IsFrozenAtRest, IsFrozenOver, IsLiveOver, LiveFollows}
 use Rattle.vb_local.specs.Trees.{blank_tree}
 use Rattle.vb_local.proofs.Blanks.{blank-shape, blank-tree}
+use Rattle.vb_local.proofs.FewEntries.{order-few, view-few}
 use Rattle.vb_local.proofs.Frozen.{entry-live, freeze-follows, frozen-over}
 
 -- ---- a frozen view of a live one
@@ -65,16 +66,17 @@ frozen-is live index pages frozen same kept table rooted slots files order taken
 abbrev pub begun : ViewState → ActiveState
 begun v = record { index = v.index; pages = [] }
 
-at-rest-frozen : (v : ViewState) (frozen : FrozenState) → IsFrozenOf (begun v) frozen → IsFrozenAtRest v.index frozen
-at-rest-frozen v frozen is = record {
+at-rest-frozen : (v : ViewState) (frozen : FrozenState) → IsView v → IsFrozenOf (begun v) frozen → IsFrozenAtRest v.index frozen
+at-rest-frozen v frozen view is = record {
   none = λ slot page. ap (λ (ps : List (PageKey × KeptPage)). kept_page ps slot page) is.pages;
   relies = λ slot page r out. entry-live v.index.nodes (blank_tree v.index.nodes) slot page r (sym (ap (λ (es : List FrozenEntry). ref_in es slot page) (of-order (begun v) frozen is)) ∙ out.at);
+  few = omega (arith, view-few v view, order-few v.index.nodes (blank_tree v.index.nodes) (blank-shape v.index.nodes is.table is.rooted), ap length (of-order (begun v) frozen is));
 }
 
-rests-over : (v : ViewState) (stands : Bool) (frozen : Option FrozenState) → IsBegun stands (begun v) frozen → IsAtRestOver v.index frozen
-rests-over v false frozen is = subst (IsAtRestOver v.index) (sym is) tt
-rests-over v true None is = absurd is
-rests-over v true (Some frozen) is = at-rest-frozen v frozen is
+rests-over : (v : ViewState) (stands : Bool) (frozen : Option FrozenState) → IsView v → IsBegun stands (begun v) frozen → IsAtRestOver v.index frozen
+rests-over v false frozen view is = subst (IsAtRestOver v.index) (sym is) tt
+rests-over v true None view is = absurd is
+rests-over v true (Some frozen) view is = at-rest-frozen v frozen view is
 
 stands-in : (v : ViewState) (stands : Bool) (frozen : Option FrozenState) → IsBegun stands (begun v) frozen → StandsIn (Rests frozen) (standing_of stands v)
 stands-in v false frozen is = subst (λ (f : Option FrozenState). StandsIn (Rests f) None) (sym is) refl
@@ -89,7 +91,7 @@ begun-tied v stands live frozen is none begins = subst (λ (a : ActiveState). Ar
   view = is;
   live = record { limits = refl; relies = λ slot page r out. out.at };
   limits = is.can.pages;
-  phase = record { none_begun = none; frozen_is = rests-over v stands frozen frozen_is };
+  phase = record { none_begun = none; frozen_is = rests-over v stands frozen is frozen_is };
   stands = stands-in v stands frozen frozen_is;
 }) where
   frozen_is : IsBegun stands (begun v) frozen

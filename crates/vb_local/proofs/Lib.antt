@@ -13,3 +13,5 @@ pub mod TreesOn
 pub mod WaysShown
 pub mod FoldersShown
 pub mod StepsGiven
+pub mod FewEntries
+pub mod FrozenPages

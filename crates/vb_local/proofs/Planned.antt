@@ -34,6 +34,7 @@ use Rattle.vb_plan.proofs.Stood.{node-stands}
 use Rattle.vb_store.specs.Views.{HasNoneBegun, IsView, ViewState}
 use Rattle.vb_store.proofs.NextPlanned.{basis_at, can_plan, can_view_next}
 use Rattle.vb_local.specs.Ties.{ref_in, FrozenState, IsFrozenOver, IsFrozenUnder, IsKeptIn}
+use Rattle.vb_local.proofs.FewEntries.{over-few}
 
 -- ---- the pages that are planned
 
@@ -191,6 +192,7 @@ plan-under v frozen is none over = record {
       let due = subst (λ (o : Option (List ℕ)). HasReference (plan_of (basis_at v) (next_of frozen.order frozen.pages)).pages (data_page slot page) (source_of o some.0) has.reference) kept has.is in
       ap (option_map (λ (r : Ref). r.digest)) has.at ∙ ap Some due.0);
   kept = all-kept frozen.pages (basis_at v) 0 (next_of frozen.order frozen.pages) (next-sourced frozen.pages frozen.order);
+  few = over-few v frozen is over;
 }
 
 -- a page that it keeps in memory is among the pages to write, at its reference

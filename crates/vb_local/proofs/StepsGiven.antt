@@ -44,6 +44,7 @@ use Rattle.vb_local.specs.Phases.{AreTied, IsAtRestOver, IsPlanned, IsTiedAtRest
 use Rattle.vb_local.specs.Shown.{LocalTrees, RecoversViewsOf, RestsFor, ShowsAtRest, ShowsDuring, ShowsNext, ShowsOn, StandsOn, commit_of, trees_after, views_during, views_of}
 use Rattle.vb_local.specs.States.{epoch_in, frozen_in, is_on, LocalState, PhaseState, Rests, Waits, Writes}
 use Rattle.vb_local.specs.Ties.{given_of, FrozenRelies, FrozenState, IsFrozenUnder, IsKeptIn, IsLiveOver, LiveFollows, LiveRelies}
+use Rattle.vb_local.proofs.FewEntries.{new-refs-few}
 use Rattle.vb_local.proofs.FoldersShown.{shown-recovers}
 use Rattle.vb_local.proofs.Given.{pages-left}
 use Rattle.vb_local.proofs.PlansShown.{plan-shows}
@@ -205,6 +206,7 @@ going-tied live v frozen way new standing before after result tied steps other =
       relies = tied.phase.frozen_is.relies;
       digests = tied.phase.frozen_is.digests;
       kept = kept-new frozen way new (given_of way.pages frozen) before after result steps tied.phase.frozen_is.kept;
+      few = tied.phase.frozen_is.few;
     };
     follows = tied.phase.follows;
     is = steps.new_is;
@@ -261,6 +263,7 @@ rested-frozen live v frozen way head standing after next phase tied rests None =
 rested-frozen live v frozen way head standing after next phase tied rests (Some epoch) = record {
   none = rests.settles.pages.none;
   relies = rests.settles.kept.relies (subst (λ (i : IndexState). FrozenRelies i.nodes frozen) (same-next tied.phase.next next.index v.next tied.phase.begun rests.index) tied.phase.frozen_is.relies);
+  few = new-refs-few frozen rests.settled rests.settles.kept.order tied.phase.frozen_is.few;
 }
 
 rested-stands : (settled : FrozenState) (standing : Option ℕ) → StandsIn (Rests (cond (is_none standing) None (Some settled))) standing

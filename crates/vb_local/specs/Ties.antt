@@ -1,5 +1,5 @@
 -- How the views in memory hang together: the live one, the frozen one, and the committed and the next nodes.
-use Rattle.std.specs.Prelude.{◌≡◌, ℕ, ◌≤◌, List, [], ◌∷◌, slice_get, Option, Some, None, IsSome, unwrap_or}
+use Rattle.std.specs.Prelude.{◌≡◌, ℕ, ◌≤◌, List, [], ◌∷◌, length, slice_get, Option, Some, None, IsSome, unwrap_or}
 use Rattle.std.specs.List.{All}
 use Rattle.std.specs.Option.{option_map}
 use Rattle.sha2.specs.Sha256.{sha256}
@@ -38,6 +38,10 @@ pub record IsFrozenOut (view : FrozenState) (slot page : ℕ) (reference : Ref) 
 abbrev pub KeepsEntries : FrozenState → Type 0
 KeepsEntries view = (slot page : ℕ) → IsSome (kept_page view.pages slot page) → IsSome (ref_in view.order slot page)
 
+-- a frozen view has fewer entries than a store may have nodes, since the root is none
+abbrev pub HasFewEntries : FrozenState → Type 0
+HasFewEntries view = length view.order ≤ 65535
+
 -- ---- what a view has out of memory
 
 -- these nodes have each page that the live view has out of memory, with the same reference
@@ -67,6 +71,7 @@ pub record IsLiveOver (committed : IndexState) (live : ActiveState) : Type 0 whe
 pub record IsFrozenAtRest (committed : IndexState) (frozen : FrozenState) : Type 0 where
   pub none : (slot page : ℕ) → kept_page frozen.pages slot page ≡ None
   pub relies : FrozenRelies committed.nodes frozen
+  pub few : HasFewEntries frozen
 
 -- frozen, and not planned yet: it can be committed over the committed nodes
 pub record IsFrozenOver (committed : IndexState) (frozen : FrozenState) : Type 0 where
@@ -91,6 +96,7 @@ pub record IsFrozenUnder (next : List (Option Held)) (left : List PlanPage) (fro
   pub relies : FrozenRelies next frozen
   pub digests : HaveDigests next frozen
   pub kept : All (IsKeptIn frozen.pages) left
+  pub few : HasFewEntries frozen
 
 -- ---- the pages of a commit
 

@@ -3,6 +3,7 @@
 
 mod answer_laws;
 mod freezing;
+mod frozen_laws;
 mod going_on;
 mod laws;
 mod local;
@@ -14,6 +15,7 @@ mod starting;
 mod stepping;
 
 pub use answer_laws::answers_are_left_while_a_commit_is_on;
+pub use frozen_laws::frozen_pages_are_on_the_disk;
 pub use laws::{
     a_due_page_is_kept, a_freeze_can_be_committed, a_plan_has_the_frozen_pages,
     a_rested_commit_holds_the_frozen_pages, a_rested_commit_is_relied_on,
