@@ -42,7 +42,7 @@ live-kept s live history kept = record {
   past = kept.past;
   doubt = kept.doubt;
   small = kept.small;
-  sends = λ frozen at some. record { can = (kept.sends frozen at some).can; stands = (kept.sends frozen at some).stands; epoch = (kept.sends frozen at some).epoch };
+  sends = λ frozen at some. record { can = (kept.sends frozen at some).can; apart = (kept.sends frozen at some).apart; stands = (kept.sends frozen at some).stands; epoch = (kept.sends frozen at some).epoch };
   now = λ other. record { stands = (kept.now other).stands; committed = (kept.now other).committed; sure = (kept.now other).sure };
 }
 

@@ -8,6 +8,7 @@ use Rattle.std.specs.List.{Contains}
 use Rattle.vb_event.specs.declared.answer.FaultKind.TheVariants.{Memory}
 use Rattle.vb_event.specs.declared.answer.FolderAnswer.TheVariants as answers
 use Rattle.vb_event.specs.declared.event.FolderEvent.TheVariants as events
+use Rattle.vb_frozen.specs.Orders.{AreApart}
 use Rattle.vb_hist.specs.Histories.{Recorded}
 use Rattle.vb_hist.specs.declared.entry.Entry.{Entry}
 use Rattle.vb_hist.specs.declared.entry.Entry.TheVariants.{Freeze, FreezeBusy}
@@ -122,8 +123,8 @@ later-doubt (Some e) published epoch doubt = (doubt.0, (let low = doubt.1 in ome
 frozen-one : (a b : FrozenState) → Some a ≡ Some b → a ≡ b
 frozen-one a b same = cc same
 
-pub frozen-kept : (s : LedgerState) (local : LocalState) (history : Recorded) (upload : Upload) (frozen : FrozenState) → IsKept s → is_busy_now s ≡ false → is_spent_now s ≡ false → local ≡ waiting s.local frozen (s.epoch + 1) → AllCanBeSent frozen.order → cursor_of upload ≡ Begin → epoch_of upload ≡ s.epoch + 1 → IsKept (frozen_now s local history upload)
-frozen-kept s local history upload frozen kept idle unspent waits can begins epoch = subst (λ (x : LocalState). IsKept (frozen_now s x history upload)) (sym waits) (record {
+pub frozen-kept : (s : LedgerState) (local : LocalState) (history : Recorded) (upload : Upload) (frozen : FrozenState) → IsKept s → is_busy_now s ≡ false → is_spent_now s ≡ false → local ≡ waiting s.local frozen (s.epoch + 1) → AllCanBeSent frozen.order → AreApart frozen.order → cursor_of upload ≡ Begin → epoch_of upload ≡ s.epoch + 1 → IsKept (frozen_now s local history upload)
+frozen-kept s local history upload frozen kept idle unspent waits can apart begins epoch = subst (λ (x : LocalState). IsKept (frozen_now s x history upload)) (sym waits) (record {
   left = plan-rests (plan_over s.local.view frozen);
   on = refl;
   frozen = refl;
@@ -134,6 +135,7 @@ frozen-kept s local history upload frozen kept idle unspent waits can begins epo
   small = omega arith;
   sends = λ f at some. subst (λ (x : FrozenState). SendsView (frozen_now s (waiting s.local frozen (s.epoch + 1)) history upload) x) (frozen-one frozen f at) (record {
     can = can;
+    apart = apart;
     stands = subst (StandsIn frozen.order) (sym begins) tt;
     epoch = epoch;
   });

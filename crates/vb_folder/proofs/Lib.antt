@@ -8,3 +8,9 @@ pub mod StepsMade
 pub mod DropsMade
 pub mod SoundMade
 pub mod ViewsMade
+pub mod UploadsGiven
+pub mod Doubted
+pub mod Sent
+pub mod SentMade
+pub mod Spares
+pub mod RunsMade

@@ -11,7 +11,7 @@ use Rattle.vb_folder.specs.Ledgers.{LedgerState}
 abbrev pub with_room : LedgerState → ℕ → LedgerState
 with_room s n = record s { history = record s.history { spare = n } }
 
-pub room-before : (event : FolderEvent) (answer : FolderAnswer) (s new : LedgerState) (n : ℕ) (before after : Option DiskState) → Makes event answer (with_room s n) new before after → Makes event answer s new before after
+abbrev pub room-before : (event : FolderEvent) (answer : FolderAnswer) (s new : LedgerState) (n : ℕ) (before after : Option DiskState) → Makes event answer (with_room s n) new before after → Makes event answer s new before after
 room-before event answer s new n before after makes = record {
   given = makes.given;
   is_given = makes.is_given;
@@ -25,7 +25,7 @@ room-before event answer s new n before after makes = record {
   };
 }
 
-pub room-after : (event : FolderEvent) (answer : FolderAnswer) (s new : LedgerState) (n : ℕ) (before after : Option DiskState) → Makes event answer s new before after → Makes event answer s (with_room new n) before after
+abbrev pub room-after : (event : FolderEvent) (answer : FolderAnswer) (s new : LedgerState) (n : ℕ) (before after : Option DiskState) → Makes event answer s new before after → Makes event answer s (with_room new n) before after
 room-after event answer s new n before after makes = record {
   given = makes.given;
   is_given = makes.is_given;

@@ -5,7 +5,7 @@ use Rattle.vb_event.specs.Steps.{frozen_while, rest_of}
 use Rattle.vb_active.specs.Views.{ActiveState}
 use Rattle.vb_block.specs.declared.digest.Ref.{Ref}
 use Rattle.vb_frozen.specs.declared.entry.FrozenEntry.{FrozenEntry}
-use Rattle.vb_frozen.specs.Orders.{with_reference}
+use Rattle.vb_frozen.specs.Orders.{with_reference, AreApart}
 use Rattle.vb_tree.specs.declared.tree.Limits.{Limits}
 use Rattle.vb_tree.specs.declared.tree.TreeEntry.{TreeEntry}
 use Rattle.vb_upload.specs.declared.upload.Upload.{Upload}
@@ -35,6 +35,7 @@ use Rattle.vb_folder.proofs.FreezesMade.{sent-none}
 -- an upload stands in an order with new references as in the order before
 pub record StandsOnSettled : Type 0 where
   pub can : (refs : List NewRef) (order : List FrozenEntry) → AllCanBeSent order → AllCanBeSent (with_references refs order)
+  pub apart : (refs : List NewRef) (order : List FrozenEntry) → AreApart order → AreApart (with_references refs order)
   pub counts : (refs : List NewRef) (order : List FrozenEntry) → counts_of (with_references refs order) ≡ counts_of order
   pub stands : (refs : List NewRef) (order : List FrozenEntry) (cursor : Cursor) → StandsIn order cursor → StandsIn (with_references refs order) cursor
 
@@ -65,11 +66,15 @@ still-on stages.Written Committed left other gives rests = refl
 still-on stages.Committed Committed left other gives rests = refl
 
 -- a law on one new reference is one on some
-pub settled-law : ((order : List FrozenEntry) (slot page : ℕ) (reference : Ref) → AllCanBeSent order → AllCanBeSent (with_reference slot page reference order)) → ((order : List FrozenEntry) (slot page : ℕ) (reference : Ref) → counts_of (with_reference slot page reference order) ≡ counts_of order) → ((order : List FrozenEntry) (slot page : ℕ) (reference : Ref) (cursor : Cursor) → StandsIn order cursor → StandsIn (with_reference slot page reference order) cursor) → StandsOnSettled
-settled-law can counts stands = record { can = cans; counts = all-counts; stands = all-stand } where
+pub settled-law : ((order : List FrozenEntry) (slot page : ℕ) (reference : Ref) → AllCanBeSent order → AllCanBeSent (with_reference slot page reference order)) → ((order : List FrozenEntry) (slot page : ℕ) (reference : Ref) → AreApart order → AreApart (with_reference slot page reference order)) → ((order : List FrozenEntry) (slot page : ℕ) (reference : Ref) → counts_of (with_reference slot page reference order) ≡ counts_of order) → ((order : List FrozenEntry) (slot page : ℕ) (reference : Ref) (cursor : Cursor) → StandsIn order cursor → StandsIn (with_reference slot page reference order) cursor) → StandsOnSettled
+settled-law can apart counts stands = record { can = cans; apart = all-apart; counts = all-counts; stands = all-stand } where
   cans : (refs : List NewRef) (order : List FrozenEntry) → AllCanBeSent order → AllCanBeSent (with_references refs order)
   cans [] order all = all
   cans (r ∷ rs) order all = cans rs (with_reference r.slot r.page r.reference order) (can order r.slot r.page r.reference all)
+
+  all-apart : (refs : List NewRef) (order : List FrozenEntry) → AreApart order → AreApart (with_references refs order)
+  all-apart [] order all = all
+  all-apart (r ∷ rs) order all = all-apart rs (with_reference r.slot r.page r.reference order) (apart order r.slot r.page r.reference all)
 
   all-counts : (refs : List NewRef) (order : List FrozenEntry) → counts_of (with_references refs order) ≡ counts_of order
   all-counts [] order = refl
@@ -120,13 +125,13 @@ views-kept s local history stage kept keeps standing left same later = record {
   small = kept.small;
   sends = λ frozen at some.
       let sends = kept.sends frozen (sym keeps.frozen ∙ at) (subst (λ (o : Option ℕ). IsSome o) standing some) in
-      record { can = sends.can; stands = sends.stands; epoch = sends.epoch };
+      record { can = sends.can; apart = sends.apart; stands = sends.stands; epoch = sends.epoch };
   now = λ other. let now = kept.now other in record { stands = standing ∙ now.stands; committed = later now.committed; sure = now.sure };
 }
 
 -- ---- the step after which the commit rests
 
-begins : (c : Cursor) → (c ≡ Begin) ⊎ (c ≡ Begin → ⊥)
+pub begins : (c : Cursor) → (c ≡ Begin) ⊎ (c ≡ Begin → ⊥)
 begins Begin = inl refl
 begins (AtEntry i) = inr (λ e. cc e)
 begins (Page i page) = inr (λ e. cc e)
@@ -155,6 +160,7 @@ settled-sends : (s : LedgerState) (frozen settled f : FrozenState) (o : Option �
 settled-sends s frozen settled f None law sends order at = absurd (cc at)
 settled-sends s frozen settled f (Some e) law sends order at = subst (SendsView s) (settled-one settled f at) (record {
   can = subst AllCanBeSent (sym order.1) (law.can order.0 frozen.order sends.can);
+  apart = subst AreApart (sym order.1) (law.apart order.0 frozen.order sends.apart);
   stands = subst (λ (es : List FrozenEntry). StandsIn es (cursor_of s.upload)) (sym order.1) (law.stands order.0 frozen.order (cursor_of s.upload) sends.stands);
   epoch = sends.epoch;
 })
@@ -183,7 +189,7 @@ rested-kept s local history law kept going settles standing left = record {
   small = kept.small;
   sends = λ f at some.
       let sends = settled-sends s settles.frozen settles.settled f s.local.standing law (kept.sends settles.frozen settles.was (subst (λ (o : Option ℕ). IsSome o) standing some)) settles.order (sym (rested-frozen local _ settles.rests) ∙ at) in
-      record { can = sends.can; stands = sends.stands; epoch = sends.epoch };
+      record { can = sends.can; apart = sends.apart; stands = sends.stands; epoch = sends.epoch };
   now = λ other. let now = kept.now other in record { stands = standing ∙ now.stands; committed = λ e. cc e; sure = now.sure };
 }
 

@@ -2,6 +2,7 @@
 use Rattle.std.specs.Prelude.{◌≡◌, ◌≢◌, ℕ, ◌+◌, ◌<◌, ◌≤◌, ◌^◌, ◌||◌, ◌==◌, nat_le, is_some, Bool, not, if◌then◌else◌, Option, Some, None, IfSome, IsSome}
 use Rattle.vb_event.specs.Core.{BringToRest, Core, greatest_epoch, is_rested, sequences_end}
 use Rattle.vb_event.specs.Steps.{frozen_while}
+use Rattle.vb_frozen.specs.Orders.{AreApart}
 use Rattle.vb_hist.specs.Histories.{Recorded}
 use Rattle.vb_hist.specs.declared.entry.Stage.{Stage}
 use Rattle.vb_hist.specs.declared.entry.Stage.TheVariants.{Written}
@@ -54,9 +55,10 @@ core_of s t = record {
 
 -- ---- how its parts hang together, whatever a disk tells
 
--- the view that stands can be sent, and the upload stands in it at its epoch
+-- the view that stands can be sent, no two of its entries have one slot, and the upload stands in it at its epoch
 pub record SendsView (s : LedgerState) (frozen : FrozenState) : Type 0 where
   pub can : AllCanBeSent frozen.order
+  pub apart : AreApart frozen.order
   pub stands : StandsIn frozen.order (cursor_of s.upload)
   pub epoch : epoch_of s.upload ≡ s.epoch
 

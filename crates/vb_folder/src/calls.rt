@@ -1,5 +1,6 @@
 // What writers do: operations, and their end.
-ghost use Rattle.std.specs.Prelude.{◌≡◌, ◌-◌, ◌<◌, ◌≤◌, IfOk, IsOk, Option, OnErr, OnOk};
+ghost use Rattle.std.specs.Prelude.{◌≡◌, ◌-◌, ◌<◌, ◌≤◌, ℕ, List, Err, IfErr, IfOk, IsOk, Option, OnErr, OnOk};
+ghost use Rattle.vb_active.specs.Needs.{IsErrorOn};
 ghost use Rattle.vb_tree.specs.declared.reply.Reply.{Reply};
 ghost use Rattle.vb_disk.specs.States.{DiskState};
 ghost use Rattle.vb_cause.specs.Causes.{HasCause, UsesFailures};
@@ -29,6 +30,8 @@ impl Ledger {
         requires blocks { self.old.local.view.head.blocks ≤ D.seen disk.old }
         ensures makes { Makes (events.Call writer op) (call_answer result) self.old self.new (D.told disk.old) (D.told disk.new) }
         ensures others { IsCalled self.old self.new }
+        ensures damage { IfErr result (IsErrorOn (D.told disk.old) self.old.local.live op) }
+        ensures damaged { (place : ℕ) (kept found : List ℕ) → result ≡ Err (PageError.Damaged place kept found) → self.new ≡ self.old }
         ensures told { D.told disk.new ≡ D.told disk.old }
         ensures seen { D.seen disk.new ≡ D.seen disk.old }
         ensures cause { HasCause PageError.DiskFault (D.faults disk.old) (D.faults disk.new) result }
@@ -62,6 +65,8 @@ impl Ledger {
         requires spare { 0 < self.old.history.spare }
         ensures makes { Makes (events.Call writer op) (call_answer result) self.old self.new (D.told disk.old) (D.told disk.new) }
         ensures others { IsCalled self.old self.new }
+        ensures damage { IfErr result (IsErrorOn (D.told disk.old) self.old.local.live op) }
+        ensures damaged { (place : ℕ) (kept found : List ℕ) → result ≡ Err (PageError.Damaged place kept found) → self.new ≡ self.old }
         ensures told { D.told disk.new ≡ D.told disk.old }
         ensures seen { D.seen disk.new ≡ D.seen disk.old }
         ensures cause { HasCause PageError.DiskFault (D.faults disk.old) (D.faults disk.new) result }

@@ -1,7 +1,7 @@
 // The steps of the commit that is on.
 ghost use Rattle.std.specs.Prelude.{◌≡◌, ◌-◌, ◌++◌, ◌<◌, ◌≤◌, length, Ok};
 ghost use Rattle.vb_cause.specs.Causes.{HasCause, UsesFailures};
-ghost use Rattle.vb_event.specs.Steps.{pushed_by_commit};
+ghost use Rattle.vb_event.specs.Steps.{pushed_by_commit, room_after};
 ghost use Rattle.vb_event.specs.declared.event.FolderEvent.TheVariants as events;
 ghost use Rattle.vb_folder.specs.Events.{stage_after, step_answer, Makes, StepsOnce};
 ghost use Rattle.vb_steps.specs.Disks.{disk_view};
@@ -33,6 +33,8 @@ impl Ledger {
         ensures seen { D.seen disk.new ≡ D.seen disk.old }
         ensures cause { HasCause DiskError.Failed (D.faults disk.old) (D.faults disk.new) result }
         ensures left { UsesFailures DiskError.Failed (D.failures_left disk.old) (D.failures_left disk.new) result }
+        ensures spare { self.new.history.spare
+            ≡ room_after self.old.history.spare (step_answer result) - length (pushed_by_commit self.old.epoch (step_answer result)) }
         ensures idle { self.old.stage ≡ Stage.Rested → self.new ≡ self.old }
     {
         if is_rested(self.stage) {

@@ -8,10 +8,15 @@ mod laws;
 mod ledger;
 mod refusals;
 mod starting;
+mod uploads;
 
-pub use laws::{made_events_keep_folders_sound, sound_folders_recover_their_history};
+pub use laws::{
+    calls_are_steps_of_a_run, calls_keep_clouds_sound, made_events_keep_folders_sound,
+    sound_folders_recover_their_history,
+};
 pub use ledger::Ledger;
 pub use refusals::{FreezeError, NoView};
+pub use vb_upload::{UploadError, UploadStep};
 
 #[cfg(test)]
 mod tests;

@@ -3,6 +3,8 @@ ghost use Rattle.std.specs.Prelude.{◌≡◌, ◌<◌, ◌≤◌, ◌^◌, [], 
 ghost use Rattle.vb_hist.specs.declared.entry.Stage.{Stage};
 ghost use Rattle.vb_local.specs.Events.{Starts};
 ghost use Rattle.vb_store.specs.Views.{HasNoneBegun};
+ghost use Rattle.vb_upload.specs.Steps.{cursor_of};
+ghost use Rattle.vb_upload.specs.declared.cursor.Cursor.TheVariants.{Begin};
 
 use crate::Ledger;
 use std::alloc::Global;
@@ -22,6 +24,7 @@ impl Ledger {
         ensures history { IfOk result (λ ledger. ledger.history ≡ record { entries = []; spare = 0 }) }
         ensures epochs { IfOk result (λ ledger. (ledger.epoch ≡ view.head.epoch) × (ledger.published ≡ published)) }
         ensures rests { IfOk result (λ ledger. (ledger.unsure ≡ None) × (ledger.stage ≡ Stage.Rested)) }
+        ensures upload { IfOk result (λ ledger. cursor_of ledger.upload ≡ Begin) }
         ensures back { IfErr result (λ left. left ≡ view) }
     {
         let epoch = view.head().epoch;

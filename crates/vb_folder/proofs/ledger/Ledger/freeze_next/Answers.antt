@@ -2,6 +2,7 @@ use Rattle.std.proofs.Common.{◌+◌, ap, subst, sym, ◌∙◌}
 use Rattle.vb_event.specs.declared.answer.FaultKind.TheVariants.{Memory}
 use Rattle.vb_event.specs.declared.answer.FolderAnswer.TheVariants as answers
 use Rattle.vb_event.specs.declared.event.FolderEvent.TheVariants as events
+use Rattle.vb_frozen.specs.Orders.{AreApart}
 use Rattle.vb_hist.specs.Histories.{Recorded}
 use Rattle.vb_local.specs.States.{LocalState}
 use Rattle.vb_local.specs.Trees.{blank_tree}
@@ -27,7 +28,8 @@ invariant_of-self-2 c =
     let tree = c.nodes_have_a_tree.ensures.tree nodes freezes.of.table freezes.of.rooted in
     let shape = c.nodes_have_a_tree.ensures.shape nodes freezes.of.table freezes.of.rooted in
     frozen-kept s c.freeze.new.self c.push.new.self c.start-self-inside.result freezes.frozen c.self.invariant (ap is_busy_now c.self.view_is ∙ c.requires.idle) (ap is_spent_now c.self.view_is ∙ c.requires.unspent) freezes.waits
-    (subst AllCanBeSent (sym (freezes.of.order (blank_tree nodes) tree shape)) (c.indexes_can_be_sent.ensures nodes (blank_tree nodes) freezes.of.table tree shape))
+    (subst AllCanBeSent (sym (freezes.of.order (blank_tree nodes) tree shape)) (c.indexes_can_be_sent.ensures.sendable nodes (blank_tree nodes) freezes.of.table tree shape))
+    (subst AreApart (sym (freezes.of.order (blank_tree nodes) tree shape)) (c.indexes_can_be_sent.ensures.apart nodes (blank_tree nodes) freezes.of.table tree shape))
     c.start-self-inside.ensures.cursor c.start-self-inside.ensures.epoch
 
 pub returns-clause-makes : goal.returns-clause-makes
