@@ -1,5 +1,7 @@
-pub mod Noted
-pub mod Transitions
-pub mod Epochs
-pub mod Events
-pub mod Moments
+pub mod Begun
+pub mod Claimed
+pub mod Failing
+pub mod FileWays
+pub mod Greeted
+pub mod OpenedSound
+pub mod Named

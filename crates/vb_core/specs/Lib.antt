@@ -1,3 +1,5 @@
-pub mod Core
-pub mod Sound
-pub mod Promise
+pub mod FolderLends
+pub mod Folders
+pub mod Greetings
+pub mod Names
+pub mod Opened

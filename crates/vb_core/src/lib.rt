@@ -1,14 +1,19 @@
-// The folder: writers' calls, freezes, commits and publications, each one event.
+// The folder over its devices: it keeps its tree on a disk, and publishes it to a cloud behind a link.
 #![tactic(auto)]
 
-mod event;
+mod calls;
+mod commits;
 mod folder;
-mod steps;
+mod folder_error;
+mod freezes;
+mod greeting;
+mod naming;
+mod start_error;
+mod starting;
+mod uploads;
 
-pub use event::{CommitStep, FaultKind, FolderAnswer, FolderEvent, FreezeError, NoView};
 pub use folder::Folder;
-pub use steps::{Played, play};
-pub use vb_publish::UploadStep;
-
-#[cfg(test)]
-mod tests;
+pub use folder_error::FolderError;
+pub use start_error::{StartError, StartRefused};
+pub use vb_folder::{FreezeError, NoView, UploadStep};
+pub use vb_journal::CommitStep;
