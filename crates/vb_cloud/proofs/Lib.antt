@@ -2,5 +2,4 @@ pub mod Digests
 pub mod Drafted
 pub mod Found
 pub mod Keeps
-pub mod Copies
 pub mod Rises

@@ -1,7 +1,6 @@
 pub mod Machine
 pub mod Pages
 pub mod Published
-pub mod Replacing
 pub mod Rising
 pub mod Stored
 pub mod Valid

@@ -1,24 +1,19 @@
 // The cloud in memory: the view that it shows, and the draft of the next one.
-ghost use Rattle.std.specs.Prelude.{◌≡◌, ◌<◌, ◌≤◌, length, IfOk, OnOk, OnErr, slice_get, Some, None};
+ghost use Rattle.std.specs.Prelude.{◌≡◌, ◌<◌, length, slice_get, Some};
 ghost use Rattle.std.specs.List.{position};
 ghost use Rattle.vb_path.specs.Paths.{same_path};
 ghost use Rattle.vb_tree.specs.declared.tree.TreeEntry.{TreeEntry};
 ghost use Rattle.vb_cloud.specs.Machine.{new_cloud, cloud_step, Takes};
-ghost use Rattle.vb_cloud.specs.Replacing.{ReplacesUnlessMemory};
-ghost use Rattle.vb_tree.specs.Trees.{IsTree};
-ghost use Rattle.vb_cloud.specs.Stored.{shown_tree};
 ghost use Rattle.vb_cloud.specs.Pages.{digests_of};
 ghost use Rattle.vb_cloud.specs.Valid.{HasViews, IsCloudState};
 
 use crate::CloudRefusal;
-use crate::entry::CloudEntry;
 use crate::machine::{Machine, place_of};
-use crate::stored::Stored;
-use std::alloc::{AllocError, Global};
+use std::alloc::Global;
 use std::marker::Model;
 use vb_block::{Digest, FolderId};
 use vb_msg::Msg;
-use vb_tree::{Kind, Path, Plain};
+use vb_tree::{Kind, Path};
 
 /// A cloud: its id, the view that it shows, and at most one draft of a later one. Contracts see these.
 #[derive(Debug, Drop)]
@@ -105,42 +100,4 @@ impl Cloud {
     {
         self.machine.apply(alloc, msg)
     }
-
-    /// Shows this tree at this epoch in place of the view before, in one step. A draft goes.
-    pub fn replace(&mut self, alloc: Global, epoch: u64, tree: &Plain) -> Result<(), CloudRefusal>
-        requires { epoch < 9223372036854775808 }
-        ensures answer { ReplacesUnlessMemory self.old.epoch epoch result }
-        ensures ok { OnOk result (self.new ≡ record self.old { epoch = epoch; tree = tree.now.tree; draft = None }) }
-        ensures err { OnErr result (self.new ≡ self.old) }
-    {
-        if epoch <= self.machine.epoch {
-            return Err(CloudRefusal::NotLater {
-                published: self.machine.epoch,
-                asked: epoch,
-            });
-        }
-        self.machine.shown = entries_of(alloc, tree)?;
-        self.machine.epoch = epoch;
-        self.machine.draft = None;
-        Ok(())
-    }
-}
-
-/// The entries of a tree, with their contents copied.
-#[tactic(auto, using(crate::proofs::Copies::copying))]
-fn entries_of(alloc: Global, tree: &Plain) -> Result<Vec<CloudEntry>, AllocError>
-    ensures entries { IfOk result (λ entries. shown_tree entries.items ≡ tree.now.tree) }
-    ensures few { length tree.now.tree < 65536 }
-    ensures tree { IsTree tree.now.tree }
-{
-    let count = tree.len();
-    let mut entries = Vec::with_capacity(alloc, count)?;
-    for i in 0..count {
-        let (path, kind, bytes) = tree.entry(i);
-        entries.push(CloudEntry {
-            path: path.copy(alloc)?,
-            stored: Stored::of(alloc, kind, bytes)?,
-        })?;
-    }
-    Ok(entries)
 }

@@ -29,18 +29,6 @@ impl Model for Content {
 }
 
 impl Content {
-    /// A content of these bytes, copied, to be shared.
-    pub(crate) fn of(alloc: Global, bytes: &[u8]) -> Result<Arc<Content>, AllocError>
-        ensures { IfOk result (λ content. arc_value content ≡ bytes.now) }
-    {
-        let mut digests = Vec::new(alloc);
-        for page in 0..bytes.len().div_ceil(PAGE) {
-            note_up_to(&mut digests, alloc, bytes, page + 1)?;
-        }
-        let bytes = Bytes::of(alloc, bytes)?;
-        Ok(Arc::new(alloc, Content { bytes, digests })?)
-    }
-
     /// Its bytes.
     pub(crate) fn bytes(&self) -> &[u8]
         ensures { result.now ≡ self.now }
