@@ -1,0 +1,2 @@
+pub mod NewMounts
+pub mod NewStores
