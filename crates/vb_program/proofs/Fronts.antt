@@ -1,5 +1,5 @@
 -- Histories of quiet runs only grow.
-use Rattle.std.proofs.Common.{◌≡◌, ℕ, ◌+◌, Bool, true, false, cond, List, [], ◌∷◌, ◌++◌, refl, sym, ap, ◌∙◌, subst, append_assoc}
+use Rattle.std.proofs.Common.{◌≡◌, ℕ, ◌+◌, Bool, true, false, cond, if◌then◌else◌, List, [], ◌∷◌, ◌++◌, refl, sym, ap, ◌∙◌, subst, append_assoc}
 use Rattle.std.proofs.lemmas.List.{append-nil}
 use Rattle.std.specs.List.{fold}
 use Rattle.vb_tree.specs.declared.tree.Limits.{Limits}
@@ -69,3 +69,13 @@ front-through_writers limits history now script scripts items left h is same =
     let through : IsPrefix now (fold f history items) =
     subst P (ap (fold f history) (sym is)) (front-trans now (f history script) (fold f (f history script) left) h (front-scripts limits (f history script) left)) in
     front-trans now (fold f [] scripts) (quiet_history limits scripts) (subst P same through) (front-last (fold f [] scripts))
+
+-- ---- the last freeze
+
+-- the program freezes once more where something was done
+pub frozen-last : (history : List Entry) → is_unfrozen history ≡ true → with_last_freeze history ≡ after_quiet_freeze 0 history
+frozen-last history is = ap (λ (b : Bool). if b then after_quiet_freeze 0 history else history) is
+
+-- and else its history stays
+pub unfrozen-last : (history : List Entry) → is_unfrozen history ≡ false → with_last_freeze history ≡ history
+unfrozen-last history is = ap (λ (b : Bool). if b then after_quiet_freeze 0 history else history) is

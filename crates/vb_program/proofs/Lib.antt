@@ -1,7 +1,13 @@
+pub mod Answered
 pub mod Endings
 pub mod Fronts
+pub mod Limits
+pub mod Loops
+pub mod Made
+pub mod NewFolders
 pub mod Outputs
 pub mod QuietSteps
 pub mod Rehearsals
 pub mod ScriptsRead
+pub mod Sendings
 pub mod Tellings

@@ -2,6 +2,7 @@
 #![tactic(auto)]
 
 mod ending;
+mod events;
 mod quiet;
 mod refusal;
 mod rehearsal;

@@ -1,26 +1,24 @@
 // A rehearsal: a script is read and played on a new folder, and what happened is reported.
-ghost use Rattle.std.specs.Prelude.{◌≡◌, ◌≢◌, ◌+◌, ◌≤◌, ◌<◌, ℕ, List, [], false, true, length, take};
-ghost use mathlib.Core.List.{IsPrefix};
-ghost use Rattle.vb_geometry.specs.Layout.{IsStoreSize};
-ghost use Rattle.vb_tree.specs.Trees.{AreInLimits};
+ghost use Rattle.std.specs.Prelude.{◌≡◌, ◌≢◌, ◌+◌, ◌≤◌, ◌<◌, ℕ, List, [], false, true, length, take, unwrap_or, IfOk};
+ghost use Rattle.vb_event.specs.Core.{epochs_end};
 ghost use Rattle.vb_hist.specs.Quiet.{AreInRange, line_count, is_unfrozen, quiet_history};
-ghost use Rattle.vb_core.specs.Core.{greatest_epoch};
-ghost use Rattle.vb_script.specs.Sound.{IsDiskAllowed};
-ghost use Rattle.vb_report.specs.Reports.{AddsHistory};
-ghost use Rattle.vb_program.specs.Playing.{IsQuiet};
+ghost use Rattle.vb_program.specs.Playing.{history_in, limits_in, IsQuiet};
 ghost use Rattle.vb_program.specs.declared.ending.Ending.{Ending};
-ghost use Rattle.vb_program.specs.Run.{are_words, limits_of_disk, limits_of, most_read, view_after, Reports, TellsFolder, TellsHistory, history_of_run};
+ghost use Rattle.vb_program.specs.Run.{are_words, limits_of_disk, most_read, usual_disk, view_after, Reports, TellsFolder, TellsHistory, history_of_run};
 
 use crate::ending::Ending;
+use crate::events::MemoryFolder;
 use crate::quiet::play_scripts;
 use crate::refusal::refuse;
-use std::alloc::Global;
-use vb_core::Folder;
+use std::alloc::{AllocError, Global};
+use vb_block::FolderId;
+use vb_core::{Folder, StartError};
+use vb_fresh::mount_new;
 use vb_geometry::Geometry;
 use vb_hist::Scripts;
+use vb_link::MemoryCloud;
 use vb_report::Report;
 use vb_script::{Form, Script, read_script};
-use vb_tree::Limits;
 
 /// The blocks of the disk of a script that names none.
 const USUAL_BLOCKS: u32 = 16_384;
@@ -28,25 +26,32 @@ const USUAL_BLOCKS: u32 = 16_384;
 /// The nodes of the disk of a script that names none.
 const USUAL_NODES: u32 = 1024;
 
-/// The limits that a disk sets: the pages that it has room for, and its nodes.
-fn limits_of_disk(disk: &Geometry) -> Limits
-    ensures limits { result ≡ limits_of_disk disk.now }
-    ensures allowed { AreInLimits result }
+/// The name of the store of a rehearsal.
+const REHEARSED: [u8; 16] = [1; 16];
+
+/// The disk of a rehearsal: that of its script, or the usual one.
+fn disk_of(script: &Script) -> Geometry
+    ensures { result ≡ unwrap_or script.now.disk usual_disk }
 {
-    Limits {
-        pages: u64::from(disk.page_limit()),
-        nodes: disk.nodes(),
+    match &script.disk {
+        Some(disk) => *disk,
+        None => Geometry::new(USUAL_BLOCKS, USUAL_NODES),
     }
 }
 
-/// The limits of a rehearsal: those of its script's disk.
-fn limits_of(script: &Script) -> Limits
-    ensures limits { result ≡ limits_of script.now }
-    ensures allowed { AreInLimits result }
+/// A new folder on a disk of so many blocks and nodes, and with a new cloud.
+fn new_folder(alloc: Global, disk: &Geometry) -> Result<MemoryFolder, AllocError>
+    ensures quiet { IfOk result IsQuiet }
+    ensures new { IfOk result (λ folder. history_in folder ≡ []) }
+    ensures limits { IfOk result (λ folder. limits_in folder ≡ limits_of_disk disk.now) }
 {
-    match &script.disk {
-        Some(disk) => limits_of_disk(disk),
-        None => limits_of_disk(&Geometry::new(USUAL_BLOCKS, USUAL_NODES)),
+    let mounted = mount_new(alloc, FolderId::of(REHEARSED), disk.blocks(), disk.nodes())?;
+    match Folder::start(alloc, mounted, MemoryCloud::new(alloc)) {
+        Ok(folder) => Ok(folder),
+        Err(refused) => match refused.why {
+            StartError::Memory => Err(AllocError),
+            _ => unreachable!(),
+        },
     }
 }
 
@@ -72,49 +77,51 @@ fn rehearse_script(alloc: Global, script: Script, report: &mut Report) -> Ending
     requires few { line_count script.writers ≤ most_read }
     ensures { TellsHistory (history_of_run script) result report.new.text }
 {
-    let Ok(mut folder) = Folder::new(alloc, limits_of(&script)) else {
+    let Ok(folder) = new_folder(alloc, &disk_of(&script)) else {
         return Ending::Memory;
     };
-    play(alloc, &mut folder, script.writers, report)
+    play(alloc, folder, script.writers, report)
 }
 
 /// Plays all scripts on a new folder, and reports its history and what was published. Where the run finds no memory, all
 /// lines of the history that it made are reported, or as many whole ones as the report finds memory for.
-fn play(alloc: Global, folder: &mut Folder, scripts: Scripts, report: &mut Report) -> Ending
-    requires quiet { IsQuiet folder.old }
-    requires new { folder.old.core.history ≡ [] }
+fn play(alloc: Global, folder: MemoryFolder, scripts: Scripts, report: &mut Report) -> Ending
+    requires quiet { IsQuiet folder }
+    requires new { history_in folder ≡ [] }
+    requires no_text { report.old.text ≡ [] }
     requires range { AreInRange scripts }
-    requires epochs { line_count scripts + 1 < greatest_epoch }
-    ensures tells { TellsFolder folder.new.core.history (view_after folder.new.core.history) report.old result report.new }
-    ensures front { IsPrefix folder.new.core.history (quiet_history folder.old.core.limits scripts) }
-    ensures whole { result ≡ Ending.Whole → folder.new.core.history ≡ quiet_history folder.old.core.limits scripts }
+    requires epochs { line_count scripts < epochs_end }
+    ensures { TellsHistory (quiet_history (limits_in folder) scripts) result report.new.text }
 {
-    match play_scripts(alloc, folder, scripts) {
+    let mut folder = folder;
+    match play_scripts(alloc, &mut folder, scripts) {
         Ok(()) => report_whole(folder, report),
-        Err(_) => report_front(folder, report),
+        Err(_) => report_front(&folder, report),
     }
 }
 
 /// The lines of a folder's history and the listing of what it published.
-fn report_whole(folder: &Folder, report: &mut Report) -> Ending
-    requires quiet { IsQuiet folder.now }
-    requires frozen { is_unfrozen folder.now.core.history ≡ false }
-    ensures { TellsFolder folder.now.core.history (view_after folder.now.core.history) report.old result report.new }
+fn report_whole(folder: MemoryFolder, report: &mut Report) -> Ending
+    requires quiet { IsQuiet folder }
+    requires frozen { is_unfrozen (history_in folder) ≡ false }
+    ensures { TellsFolder (history_in folder) (view_after (history_in folder)) report.old result report.new }
 {
     let told = report.history(folder.history().entries());
-    if told.is_err() {
-        return Ending::Memory;
+    match told {
+        Ok(()) => {}
+        Err(_) => return Ending::Memory,
     }
-    match report.listing(b"view ", folder.cloud()) {
+    let (_, link) = folder.into_parts();
+    match report.listing(b"view ", link.cloud()) {
         Ok(()) => Ending::Whole,
         Err(_) => Ending::Memory,
     }
 }
 
 /// The lines of a folder's history, as far as memory is found.
-fn report_front(folder: &Folder, report: &mut Report) -> Ending
+fn report_front(folder: &MemoryFolder, report: &mut Report) -> Ending
     ensures memory { result ≡ Ending.Memory }
-    ensures front { TellsFolder folder.now.core.history (view_after folder.now.core.history) report.old Ending.Memory report.new }
+    ensures front { TellsFolder (history_in folder.now) (view_after (history_in folder.now)) report.old Ending.Memory report.new }
 {
     let _ = report.history(folder.history().entries());
     Ending::Memory
